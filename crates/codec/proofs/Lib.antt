@@ -1,0 +1,10 @@
+pub mod Masks
+pub mod Rounded
+pub mod Steps
+pub mod Encode
+pub mod Patterns
+pub mod Units
+pub mod Cut
+pub mod Bytes
+pub mod TwosComplement
+pub mod KindTable

@@ -1,0 +1,11 @@
+pub mod Refusals
+pub mod Ids
+pub mod Kinds
+pub mod Modes
+pub mod Words
+pub mod Values
+pub mod Models
+pub mod Motion
+pub mod Status
+pub mod Faults
+pub mod Replies

@@ -1,0 +1,60 @@
+-- The protocol command, ping replies and version replies. A refusal stands beside zeros. Definitions only.
+use Prim.Native.Nat.{ℕ, _%_}
+use mathlib.Core.Bool.{Bool, cond, _&&_}
+use mathlib.Core.List.{List, [], _∷_}
+use lib.Dec.{eqb, ltb}
+use lib.ListN.{getD}
+use Rattle.codec.specs.declared.error.Refusal.{Refusal}
+use Rattle.codec.specs.declared.error.Refusal.the-variants.{UnknownProtocol, NotPingReply, NotVersionReply}
+use Rattle.codec.specs.declared.error.Checked.{Checked}
+use Rattle.codec.specs.declared.error.Checked.the-variants.{Passed, Refused}
+use Rattle.codec.specs.declared.protocol.SetProtocol.{SetProtocol}
+use Rattle.codec.specs.declared.replies.PingReply.{PingReply}
+use Rattle.codec.specs.declared.replies.PingAnswer.{PingAnswer}
+use Rattle.codec.specs.declared.replies.VersionReply.{VersionReply}
+use Rattle.codec.specs.declared.replies.VersionAnswer.{VersionAnswer}
+use Rattle.codec.specs.Ids.{typeOf, extraOf, nodeOf}
+
+abbrev pub zeros : List ℕ
+zeros = 0 ∷ 0 ∷ 0 ∷ 0 ∷ 0 ∷ 0 ∷ 0 ∷ 0 ∷ []
+
+-- 12: protocol not 0..2
+abbrev pub protocolChecked : ℕ → Checked
+protocolChecked p = cond (ltb 2 p) (Refused UnknownProtocol) Passed
+
+abbrev pub setProtocolBy : Checked → ℕ → SetProtocol
+setProtocolBy Passed p = record { said = Passed; payload = 1 ∷ 2 ∷ 3 ∷ 4 ∷ 5 ∷ 6 ∷ p ∷ 0 ∷ [] }
+setProtocolBy (Refused r) p = record { said = Refused r; payload = zeros }
+
+abbrev pub setProtocol : ℕ → SetProtocol
+setProtocol p = setProtocolBy (protocolChecked p) p
+
+-- ---- version
+
+abbrev pub versionRequest : List ℕ
+versionRequest = 0 ∷ 0xC4 ∷ 0 ∷ 0 ∷ 0 ∷ 0 ∷ 0 ∷ 0 ∷ []
+
+-- type 2, and a payload that begins 00 C4 56
+abbrev pub isVersion : ℕ → List ℕ → Bool
+isVersion id payload = eqb (typeOf id) 2 && (eqb (getD payload 0 0) 0 && (eqb (getD payload 1 0) 0xC4 && eqb (getD payload 2 0) 0x56))
+
+abbrev pub versionReply : ℕ → List ℕ → VersionReply
+versionReply id payload =
+    record { «device_id» = extraOf id % 256; version = getD payload 3 0 ∷ getD payload 4 0 ∷ getD payload 5 0 ∷ getD payload 6 0 ∷ [] }
+
+-- 23: not a version reply
+abbrev pub versionAnswer : ℕ → List ℕ → VersionAnswer
+versionAnswer id payload =
+    cond (isVersion id payload) (record { said = Passed; reply = versionReply id payload })
+    (record { said = Refused NotVersionReply; reply = record { «device_id» = 0; version = 0 ∷ 0 ∷ 0 ∷ 0 ∷ [] } })
+
+-- ---- ping
+
+abbrev pub pingReply : ℕ → List ℕ → PingReply
+pingReply id payload = record { «device_id» = extraOf id % 256; «responder_id» = nodeOf id; payload = payload }
+
+-- 22: not a ping reply
+abbrev pub pingAnswer : ℕ → List ℕ → PingAnswer
+pingAnswer id payload =
+    cond (eqb (typeOf id) 0) (record { said = Passed; reply = pingReply id payload })
+    (record { said = Refused NotPingReply; reply = record { «device_id» = 0; «responder_id» = 0; payload = zeros } })

@@ -1,0 +1,101 @@
+// The replies to a ping and to a version request.
+use crate::error::Checked;
+use crate::error::Refusal;
+use crate::protocol::ext_id_parts;
+ghost use mathlib.Core.Path.{_≡_};
+ghost use Rattle.codec.specs.Replies.{versionRequest, isVersion, versionAnswer, pingAnswer};
+
+pub struct PingReply {
+    pub device_id: u8,
+    pub responder_id: u8,
+    pub payload: [u8; 8],
+}
+
+// A ping reply, or one of zeros beside the refusal.
+pub struct PingAnswer {
+    pub said: Checked,
+    pub reply: PingReply,
+}
+
+pub struct VersionReply {
+    pub device_id: u8,
+    pub version: [u8; 4],
+}
+
+// A version reply, or one of zeros beside the refusal.
+pub struct VersionAnswer {
+    pub said: Checked,
+    pub reply: VersionReply,
+}
+
+// The payload that, in a type 4 frame, asks for the firmware's version.
+pub fn encode_version_request() -> [u8; 8]
+    ensures { λ r. ⌜ r ≡ versionRequest ⌝ }
+{
+    [0, 0xC4, 0, 0, 0, 0, 0, 0]
+}
+
+// Whether a frame is a version reply: type 2, and a payload that begins 00 C4 56.
+pub fn is_version_reply(arbitration_id: u32, payload: [u8; 8]) -> bool
+    ensures { λ r. ⌜ r ≡ isVersion «arbitration_id» payload ⌝ }
+{
+    let parts = ext_id_parts(arbitration_id);
+    if parts.comm_type != 2 {
+        return false;
+    }
+    if payload[0] != 0x00 {
+        return false;
+    }
+    if payload[1] != 0xC4 {
+        return false;
+    }
+    payload[2] == 0x56
+}
+
+// A version reply decoded; 23 if the frame is none.
+pub fn decode_version_reply(arbitration_id: u32, payload: [u8; 8]) -> VersionAnswer
+    ensures { λ r. ⌜ r ≡ versionAnswer «arbitration_id» payload ⌝ }
+{
+    if !is_version_reply(arbitration_id, payload) {
+        return VersionAnswer {
+            said: Checked::Refused(Refusal::NotVersionReply),
+            reply: VersionReply {
+                device_id: 0,
+                version: [0; 4],
+            },
+        };
+    }
+    let parts = ext_id_parts(arbitration_id);
+    VersionAnswer {
+        said: Checked::Passed,
+        reply: VersionReply {
+            device_id: (parts.extra_data % 256) as u8,
+            version: [payload[3], payload[4], payload[5], payload[6]],
+        },
+    }
+}
+
+// A ping reply decoded; 22 if the frame is none.
+pub fn decode_ping_reply(arbitration_id: u32, payload: [u8; 8]) -> PingAnswer
+    ensures { λ r. ⌜ r ≡ pingAnswer «arbitration_id» payload ⌝ }
+{
+    let parts = ext_id_parts(arbitration_id);
+    if parts.comm_type != 0 {
+        return PingAnswer {
+            said: Checked::Refused(Refusal::NotPingReply),
+            reply: PingReply {
+                device_id: 0,
+                responder_id: 0,
+                payload: [0; 8],
+            },
+        };
+    }
+    PingAnswer {
+        said: Checked::Passed,
+        reply: PingReply {
+            device_id: (parts.extra_data % 256) as u8,
+            responder_id: parts.node_id,
+            payload,
+        },
+    }
+}
