@@ -112,7 +112,7 @@ module _ (n : ℕ) (d : ℤ) (N : 0 < n) where
   clamped-is true k e = refl
   clamped-is false k e = refl
 
-  whole-one : (b : ℕ) → 0 < b → rounded b b ≡ U
+  pub whole-one : (b : ℕ) → 0 < b → rounded b b ≡ U
   whole-one b h = rounded-same b b 1 1 h (lit< tt) (go b) ∙ rounded-1
     where
       go : (b : ℕ) → b * 1 ≡ 1 * b

@@ -8,3 +8,9 @@ pub mod Cut
 pub mod Bytes
 pub mod TwosComplement
 pub mod KindTable
+pub mod RefusalNumbers
+pub mod FlagTable
+pub mod WordTrips
+pub mod RoundTrips
+pub mod Unique
+pub mod LimitEnds

@@ -9,3 +9,4 @@ pub mod Motion
 pub mod Status
 pub mod Faults
 pub mod Replies
+pub mod Examples

@@ -1,0 +1,94 @@
+-- Ids joined and split, values encoded and decoded: each way back. Assumes nothing.
+use mathlib.Core.Path.{_≡_, refl, sym, ap, _∙_}
+use mathlib.Core.Bool.{Bool, true, false, cond}
+use mathlib.Core.List.{List, [], _∷_}
+use Prim.Native.Nat.{ℕ, _+_, _*_, _/_, _%_, _^_, _<_}
+use native.Mathlib.Nat.{mod-eq-of-lt}
+use native.Mathlib.Omega.{arith}
+use lib.Dec.{eqb}
+use lib.Signed.{mag}
+use mir.Facts.{toZ-ofZ, ofZ-toZ}
+use mir.Syntax.{w8}
+use Rattle.codec.proofs.TwosComplement.{byte-lt}
+use Rattle.codec.specs.declared.protocol.IdParts.{IdParts}
+use Rattle.codec.specs.declared.protocol.ParameterValue.{ParameterValue}
+use Rattle.codec.specs.declared.protocol.ParameterValue.the-variants.{I8, U8, U16, U32, F32}
+use Rattle.codec.specs.declared.protocol.EncodedValue.the-variants.{Raw}
+use Rattle.codec.specs.declared.registers.ParameterDataType.{ParameterDataType}
+use Rattle.codec.specs.declared.registers.ParameterDataType.the-variants.{Int8, UInt8, UInt16, UInt32, Float32}
+use Rattle.codec.specs.declared.registers.ParameterInfo.{ParameterInfo}
+use Rattle.codec.specs.declared.registers.ParameterInfo.the-variants.{Listed, Unlisted}
+use Rattle.codec.specs.Ids.{joined, split, typeOf, extraOf, nodeOf}
+use Rattle.codec.specs.Kinds.{kindNumber, infoOf}
+use Rattle.codec.specs.Values.{le32, widthOf, valueAs, kindIn, rawOf, encodedBy, encodedValue, writePayload, readValue, valueBy}
+
+-- ---- ids
+
+-- split after join: the type comes back reduced to its 5 bits, the extra field and the node as they were
+pub split-join : (type extra node : ℕ) → extra < 65536 → node < 256
+    → split (joined type extra node) ≡ record { «comm_type» = type % 32; «extra_data» = extra; «node_id» = node }
+split-join type extra node e n =
+    let t : typeOf (joined type extra node) ≡ type % 32 = omega arith in
+    let x : extraOf (joined type extra node) ≡ extra = omega arith in
+    let o : nodeOf (joined type extra node) ≡ node = omega arith in
+    rw (t, x, o)
+
+-- join after split: the top three bits are gone
+pub join-split : (id : ℕ) → joined (typeOf id) (extraOf id) (nodeOf id) ≡ id % 2 ^ 29
+join-split id = omega arith
+
+-- ---- values: one fact over kinds and widths for each direction
+
+-- what the types of the cases hold
+abbrev pub InRange : ParameterValue → Type 0
+InRange (I8 v) = mag v < 128
+InRange (U8 v) = v < 2 ^ 8
+InRange (U16 v) = v < 2 ^ 16
+InRange (U32 v) = v < 2 ^ 32
+InRange (F32 w) = w .bits < 2 ^ 32
+
+-- decode after encode: the value with its kind and bits
+pub value-raw : (v : ParameterValue) → InRange v → valueAs (kindIn v) (rawOf v) ≡ v
+value-raw (I8 v) h = rw (mod-eq-of-lt {n = rawOf (I8 v)} {m = 256} (byte-lt v h)) (ap I8 (toZ-ofZ (record { sfits = h })))
+value-raw (U8 v) h = rw (mod-eq-of-lt h)
+value-raw (U16 v) h = rw (mod-eq-of-lt h)
+value-raw (U32 v) h = refl
+value-raw (F32 w) h = refl
+
+-- encode after decode: the bytes that the kind uses, the rest zero
+pub raw-value : (kind : ParameterDataType) (n : ℕ) → n < 2 ^ 32 → rawOf (valueAs kind n) ≡ n % 2 ^ (8 * widthOf kind)
+raw-value Int8 n h = ofZ-toZ {w = w8} {n = n % 256} (record { fits = omega arith })
+raw-value UInt8 n h = refl
+raw-value UInt16 n h = refl
+raw-value UInt32 n h = sym (mod-eq-of-lt h)
+raw-value Float32 n h = sym (mod-eq-of-lt h)
+
+kind-kept : (kind : ParameterDataType) (n : ℕ) → kindIn (valueAs kind n) ≡ kind
+kind-kept Int8 n = refl
+kind-kept UInt8 n = refl
+kind-kept UInt16 n = refl
+kind-kept UInt32 n = refl
+kind-kept Float32 n = refl
+
+-- ---- payloads
+
+-- the four bytes of a write's payload are its raw number
+pub write-raw : (id raw : ℕ) → raw < 2 ^ 32 → le32 (writePayload id raw) 4 ≡ raw
+write-raw id raw h = omega arith
+
+-- a value that is encoded for a parameter and comes back in bytes 4 to 7 is decoded as it was
+pub echoed : (id : ℕ) (v : ParameterValue) (payload : List ℕ) → InRange v → infoOf id ≡ Listed (kindIn v) → le32 payload 4 ≡ rawOf v → readValue id payload ≡ v
+echoed id v payload h i e = rw (i, e) (value-raw v h)
+
+-- what is decoded for a listed parameter is of its kind, and is encoded as the bytes that the kind uses, the rest zero
+pub written-out : (id : ℕ) (kind : ParameterDataType) (payload : List ℕ) → le32 payload 4 < 2 ^ 32 → infoOf id ≡ Listed kind
+    → encodedValue id (readValue id payload) ≡ Raw (le32 payload 4 % 2 ^ (8 * widthOf kind))
+written-out id kind payload h i =
+    rw (i, kind-kept kind (le32 payload 4), raw-value kind (le32 payload 4) h, own kind)
+  where
+    own : (k : ParameterDataType) → eqb (kindNumber k) (kindNumber k) ≡ true
+    own Int8 = refl
+    own UInt8 = refl
+    own UInt16 = refl
+    own UInt32 = refl
+    own Float32 = refl
