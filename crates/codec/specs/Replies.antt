@@ -43,10 +43,14 @@ versionReply id payload =
     record { «device_id» = extraOf id % 256; version = getD payload 3 0 ∷ getD payload 4 0 ∷ getD payload 5 0 ∷ getD payload 6 0 ∷ [] }
 
 -- 23: not a version reply
+abbrev pub noVersion : VersionAnswer
+noVersion = record { said = Refused NotVersionReply; reply = record { «device_id» = 0; version = 0 ∷ 0 ∷ 0 ∷ 0 ∷ [] } }
+
+abbrev pub aVersion : VersionReply → VersionAnswer
+aVersion reply = record { said = Passed; reply = reply }
+
 abbrev pub versionAnswer : ℕ → List ℕ → VersionAnswer
-versionAnswer id payload =
-    cond (isVersion id payload) (record { said = Passed; reply = versionReply id payload })
-    (record { said = Refused NotVersionReply; reply = record { «device_id» = 0; version = 0 ∷ 0 ∷ 0 ∷ 0 ∷ [] } })
+versionAnswer id payload = cond (isVersion id payload) (aVersion (versionReply id payload)) noVersion
 
 -- ---- ping
 
@@ -54,7 +58,11 @@ abbrev pub pingReply : ℕ → List ℕ → PingReply
 pingReply id payload = record { «device_id» = extraOf id % 256; «responder_id» = nodeOf id; payload = payload }
 
 -- 22: not a ping reply
+abbrev pub noPing : PingAnswer
+noPing = record { said = Refused NotPingReply; reply = record { «device_id» = 0; «responder_id» = 0; payload = zeros } }
+
+abbrev pub aPing : PingReply → PingAnswer
+aPing reply = record { said = Passed; reply = reply }
+
 abbrev pub pingAnswer : ℕ → List ℕ → PingAnswer
-pingAnswer id payload =
-    cond (eqb (typeOf id) 0) (record { said = Passed; reply = pingReply id payload })
-    (record { said = Refused NotPingReply; reply = record { «device_id» = 0; «responder_id» = 0; payload = zeros } })
+pingAnswer id payload = cond (eqb (typeOf id) 0) (aPing (pingReply id payload)) noPing

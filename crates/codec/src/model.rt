@@ -1,6 +1,7 @@
 // The eight models and their limits.
 use crate::error::Refusal;
 ghost use mathlib.Core.Path.{_≡_};
+ghost use mathlib.Core.Bool.{cond};
 ghost use Rattle.codec.specs.Models.{sameBytes, modelNamed, limitsTo, limitsOf, modelLimits};
 
 pub enum Model {
@@ -50,35 +51,29 @@ fn same_bytes(a: &[u8], b: &[u8]) -> bool
     true
 }
 
+// The model if the name is its own, else what was found among the others.
+fn named_or(name: &[u8], own: &[u8], model: Model, other: ModelNamed) -> ModelNamed
+    ensures { λ r. ⌜ r ≡ cond (sameBytes (now (name .entry)) (now (own .entry))) (ModelNamed.Known model) other ⌝ }
+{
+    if same_bytes(name, own) {
+        return ModelNamed::Known(model);
+    }
+    other
+}
+
 // The model of exactly this name. A name is any bytes.
 pub fn model_named(name: &[u8]) -> ModelNamed
     ensures { λ r. ⌜ r ≡ modelNamed (now (name .entry)) ⌝ }
 {
-    if same_bytes(name, b"rs-00") {
-        return ModelNamed::Known(Model::Rs00);
-    }
-    if same_bytes(name, b"rs-01") {
-        return ModelNamed::Known(Model::Rs01);
-    }
-    if same_bytes(name, b"rs-02") {
-        return ModelNamed::Known(Model::Rs02);
-    }
-    if same_bytes(name, b"rs-03") {
-        return ModelNamed::Known(Model::Rs03);
-    }
-    if same_bytes(name, b"rs-04") {
-        return ModelNamed::Known(Model::Rs04);
-    }
-    if same_bytes(name, b"rs-05") {
-        return ModelNamed::Known(Model::Rs05);
-    }
-    if same_bytes(name, b"rs-05el") {
-        return ModelNamed::Known(Model::Rs05el);
-    }
-    if same_bytes(name, b"rs-06") {
-        return ModelNamed::Known(Model::Rs06);
-    }
-    ModelNamed::Unknown
+    let found = ModelNamed::Unknown;
+    let found = named_or(name, b"rs-06", Model::Rs06, found);
+    let found = named_or(name, b"rs-05el", Model::Rs05el, found);
+    let found = named_or(name, b"rs-05", Model::Rs05, found);
+    let found = named_or(name, b"rs-04", Model::Rs04, found);
+    let found = named_or(name, b"rs-03", Model::Rs03, found);
+    let found = named_or(name, b"rs-02", Model::Rs02, found);
+    let found = named_or(name, b"rs-01", Model::Rs01, found);
+    named_or(name, b"rs-00", Model::Rs00, found)
 }
 
 // The limits of a model whose position runs to 4π, as each does.

@@ -24,13 +24,16 @@ fn clamp(v: f32, lo: f32, hi: f32) -> f32
     v
 }
 
+// What a NaN gives.
+const RAW_OF_NAN: u16 = 0;
+
 // The fraction cut off, worked out from the bits (sign, exponent, digits): 0 for a NaN and below 1,
 // 65535 from 65536 on.
 fn trunc_u16(x: f32) -> u16
     ensures { λ r. ⌜ r ≡ toUnsigned 16 x ⌝ }
 {
     if x != x {
-        return 0;
+        return RAW_OF_NAN;
     }
     let bits: u32 = f32::to_bits(x);
     if bits < 0x3F80_0000 {

@@ -3,7 +3,7 @@ use crate::error::Checked;
 use crate::error::Refusal;
 use crate::protocol::ext_id_parts;
 ghost use mathlib.Core.Path.{_≡_};
-ghost use Rattle.codec.specs.Replies.{versionRequest, isVersion, versionAnswer, pingAnswer};
+ghost use Rattle.codec.specs.Replies.{versionRequest, isVersion, noVersion, aVersion, versionAnswer, noPing, aPing, pingAnswer};
 
 pub struct PingReply {
     pub device_id: u8,
@@ -52,26 +52,64 @@ pub fn is_version_reply(arbitration_id: u32, payload: [u8; 8]) -> bool
     payload[2] == 0x56
 }
 
+// 23, beside a reply of zeros.
+fn not_version_reply() -> VersionAnswer
+    ensures { λ r. ⌜ r ≡ noVersion ⌝ }
+{
+    VersionAnswer {
+        said: Checked::Refused(Refusal::NotVersionReply),
+        reply: VersionReply {
+            device_id: 0,
+            version: [0; 4],
+        },
+    }
+}
+
+// A reply that passed.
+fn passed_version(reply: VersionReply) -> VersionAnswer
+    ensures { λ r. ⌜ r ≡ aVersion reply ⌝ }
+{
+    VersionAnswer {
+        said: Checked::Passed,
+        reply,
+    }
+}
+
 // A version reply decoded; 23 if the frame is none.
 pub fn decode_version_reply(arbitration_id: u32, payload: [u8; 8]) -> VersionAnswer
     ensures { λ r. ⌜ r ≡ versionAnswer «arbitration_id» payload ⌝ }
 {
     if !is_version_reply(arbitration_id, payload) {
-        return VersionAnswer {
-            said: Checked::Refused(Refusal::NotVersionReply),
-            reply: VersionReply {
-                device_id: 0,
-                version: [0; 4],
-            },
-        };
+        return not_version_reply();
     }
     let parts = ext_id_parts(arbitration_id);
-    VersionAnswer {
-        said: Checked::Passed,
-        reply: VersionReply {
-            device_id: (parts.extra_data % 256) as u8,
-            version: [payload[3], payload[4], payload[5], payload[6]],
+    passed_version(VersionReply {
+        device_id: (parts.extra_data % 256) as u8,
+        version: [payload[3], payload[4], payload[5], payload[6]],
+    })
+}
+
+// 22, beside a reply of zeros.
+fn not_ping_reply() -> PingAnswer
+    ensures { λ r. ⌜ r ≡ noPing ⌝ }
+{
+    PingAnswer {
+        said: Checked::Refused(Refusal::NotPingReply),
+        reply: PingReply {
+            device_id: 0,
+            responder_id: 0,
+            payload: [0; 8],
         },
+    }
+}
+
+// A reply that passed.
+fn passed_ping(reply: PingReply) -> PingAnswer
+    ensures { λ r. ⌜ r ≡ aPing reply ⌝ }
+{
+    PingAnswer {
+        said: Checked::Passed,
+        reply,
     }
 }
 
@@ -81,21 +119,11 @@ pub fn decode_ping_reply(arbitration_id: u32, payload: [u8; 8]) -> PingAnswer
 {
     let parts = ext_id_parts(arbitration_id);
     if parts.comm_type != 0 {
-        return PingAnswer {
-            said: Checked::Refused(Refusal::NotPingReply),
-            reply: PingReply {
-                device_id: 0,
-                responder_id: 0,
-                payload: [0; 8],
-            },
-        };
+        return not_ping_reply();
     }
-    PingAnswer {
-        said: Checked::Passed,
-        reply: PingReply {
-            device_id: (parts.extra_data % 256) as u8,
-            responder_id: parts.node_id,
-            payload,
-        },
-    }
+    passed_ping(PingReply {
+        device_id: (parts.extra_data % 256) as u8,
+        responder_id: parts.node_id,
+        payload,
+    })
 }

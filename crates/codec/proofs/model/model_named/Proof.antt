@@ -1,120 +1,80 @@
--- Right because each test is the definition's own, in its order.
-use mathlib.Core.Path.{sym, _∙_}
+-- Right because each call is one step of the definition, from the last model back to the first.
 use borrow.Author.Needs.{needs}
 use Rattle.codec.specs.Models.{namedAmong}
 use Rattle.codec.proofs.model.model_named.Statement.{statement}
 use Rattle.codec.proofs.model.model_named.Tie as tie
 
-slice-aggregate-same-bytes : tie.Need-slice-aggregate-same-bytes
-slice-aggregate-same-bytes c = search needs
+slice-aggregate-named-or : tie.Need-slice-aggregate-named-or
+slice-aggregate-named-or c = search needs
 
-same-bytes-requires : tie.Need-same-bytes-requires
-same-bytes-requires c κs = search needs
+named-or-requires : tie.Need-named-or-requires
+named-or-requires c κs = search needs
+
+slice-aggregate-named-or-2 : tie.Need-slice-aggregate-named-or-2
+slice-aggregate-named-or-2 c = search needs
+
+named-or-requires-2 : tie.Need-named-or-requires-2
+named-or-requires-2 c κs = search needs
+
+slice-aggregate-named-or-3 : tie.Need-slice-aggregate-named-or-3
+slice-aggregate-named-or-3 c = search needs
+
+named-or-requires-3 : tie.Need-named-or-requires-3
+named-or-requires-3 c κs = search needs
+
+slice-aggregate-named-or-4 : tie.Need-slice-aggregate-named-or-4
+slice-aggregate-named-or-4 c = search needs
+
+named-or-requires-4 : tie.Need-named-or-requires-4
+named-or-requires-4 c κs = search needs
+
+slice-aggregate-named-or-5 : tie.Need-slice-aggregate-named-or-5
+slice-aggregate-named-or-5 c = search needs
+
+named-or-requires-5 : tie.Need-named-or-requires-5
+named-or-requires-5 c κs = search needs
+
+slice-aggregate-named-or-6 : tie.Need-slice-aggregate-named-or-6
+slice-aggregate-named-or-6 c = search needs
+
+named-or-requires-6 : tie.Need-named-or-requires-6
+named-or-requires-6 c κs = search needs
+
+slice-aggregate-named-or-7 : tie.Need-slice-aggregate-named-or-7
+slice-aggregate-named-or-7 c = search needs
+
+named-or-requires-7 : tie.Need-named-or-requires-7
+named-or-requires-7 c κs = search needs
+
+slice-aggregate-named-or-8 : tie.Need-slice-aggregate-named-or-8
+slice-aggregate-named-or-8 c = search needs
+
+named-or-requires-8 : tie.Need-named-or-requires-8
+named-or-requires-8 c κs = search needs
 
 returns : tie.Need-returns
 unfolding namedAmong
-returns c = rw (sym (c .before .same-bytes .ensures) ∙ c .if1 .taken)
-
-slice-aggregate-same-bytes-2 : tie.Need-slice-aggregate-same-bytes-2
-slice-aggregate-same-bytes-2 c = search needs
-
-same-bytes-requires-2 : tie.Need-same-bytes-requires-2
-same-bytes-requires-2 c κs = search needs
-
-returns-2 : tie.Need-returns-2
-unfolding namedAmong
-returns-2 c = rw (sym (c .before .before .before .before .same-bytes .ensures) ∙ c .before .before .before .if1 .left, sym (c .before .same-bytes2 .ensures) ∙ c .if2 .taken)
-
-slice-aggregate-same-bytes-3 : tie.Need-slice-aggregate-same-bytes-3
-slice-aggregate-same-bytes-3 c = search needs
-
-same-bytes-requires-3 : tie.Need-same-bytes-requires-3
-same-bytes-requires-3 c κs = search needs
-
-returns-3 : tie.Need-returns-3
-unfolding namedAmong
-returns-3 c = rw (sym (c .before .before .before .before .before .before .before .same-bytes .ensures) ∙ c .before .before .before .before .before .before .if1 .left, sym (c .before .before .before .before .same-bytes2 .ensures) ∙ c .before .before .before .if2 .left, sym (c .before .same-bytes3 .ensures) ∙ c .if3 .taken)
-
-slice-aggregate-same-bytes-4 : tie.Need-slice-aggregate-same-bytes-4
-slice-aggregate-same-bytes-4 c = search needs
-
-same-bytes-requires-4 : tie.Need-same-bytes-requires-4
-same-bytes-requires-4 c κs = search needs
-
-returns-4 : tie.Need-returns-4
-unfolding namedAmong
-returns-4 c = rw (sym (c .before .before .before .before .before .before .before .before .before .before .same-bytes .ensures) ∙ c .before .before .before .before .before .before .before .before .before .if1 .left, sym (c .before .before .before .before .before .before .before .same-bytes2 .ensures) ∙ c .before .before .before .before .before .before .if2 .left, sym (c .before .before .before .before .same-bytes3 .ensures) ∙ c .before .before .before .if3 .left, sym (c .before .same-bytes4 .ensures) ∙ c .if4 .taken)
-
-slice-aggregate-same-bytes-5 : tie.Need-slice-aggregate-same-bytes-5
-slice-aggregate-same-bytes-5 c = search needs
-
-same-bytes-requires-5 : tie.Need-same-bytes-requires-5
-same-bytes-requires-5 c κs = search needs
-
-returns-5 : tie.Need-returns-5
-unfolding namedAmong
-returns-5 c = rw (sym (c .before .before .before .before .before .before .before .before .before .before .before .before .before .same-bytes .ensures) ∙ c .before .before .before .before .before .before .before .before .before .before .before .before .if1 .left, sym (c .before .before .before .before .before .before .before .before .before .before .same-bytes2 .ensures) ∙ c .before .before .before .before .before .before .before .before .before .if2 .left, sym (c .before .before .before .before .before .before .before .same-bytes3 .ensures) ∙ c .before .before .before .before .before .before .if3 .left, sym (c .before .before .before .before .same-bytes4 .ensures) ∙ c .before .before .before .if4 .left, sym (c .before .same-bytes5 .ensures) ∙ c .if5 .taken)
-
-slice-aggregate-same-bytes-6 : tie.Need-slice-aggregate-same-bytes-6
-slice-aggregate-same-bytes-6 c = search needs
-
-same-bytes-requires-6 : tie.Need-same-bytes-requires-6
-same-bytes-requires-6 c κs = search needs
-
-returns-6 : tie.Need-returns-6
-unfolding namedAmong
-returns-6 c = rw (sym (c .before .before .before .before .before .before .before .before .before .before .before .before .before .before .before .before .same-bytes .ensures) ∙ c .before .before .before .before .before .before .before .before .before .before .before .before .before .before .before .if1 .left, sym (c .before .before .before .before .before .before .before .before .before .before .before .before .before .same-bytes2 .ensures) ∙ c .before .before .before .before .before .before .before .before .before .before .before .before .if2 .left, sym (c .before .before .before .before .before .before .before .before .before .before .same-bytes3 .ensures) ∙ c .before .before .before .before .before .before .before .before .before .if3 .left, sym (c .before .before .before .before .before .before .before .same-bytes4 .ensures) ∙ c .before .before .before .before .before .before .if4 .left, sym (c .before .before .before .before .same-bytes5 .ensures) ∙ c .before .before .before .if5 .left, sym (c .before .same-bytes6 .ensures) ∙ c .if6 .taken)
-
-slice-aggregate-same-bytes-7 : tie.Need-slice-aggregate-same-bytes-7
-slice-aggregate-same-bytes-7 c = search needs
-
-same-bytes-requires-7 : tie.Need-same-bytes-requires-7
-same-bytes-requires-7 c κs = search needs
-
-returns-7 : tie.Need-returns-7
-unfolding namedAmong
-returns-7 c = rw (sym (c .before .before .before .before .before .before .before .before .before .before .before .before .before .before .before .before .before .before .before .same-bytes .ensures) ∙ c .before .before .before .before .before .before .before .before .before .before .before .before .before .before .before .before .before .before .if1 .left, sym (c .before .before .before .before .before .before .before .before .before .before .before .before .before .before .before .before .same-bytes2 .ensures) ∙ c .before .before .before .before .before .before .before .before .before .before .before .before .before .before .before .if2 .left, sym (c .before .before .before .before .before .before .before .before .before .before .before .before .before .same-bytes3 .ensures) ∙ c .before .before .before .before .before .before .before .before .before .before .before .before .if3 .left, sym (c .before .before .before .before .before .before .before .before .before .before .same-bytes4 .ensures) ∙ c .before .before .before .before .before .before .before .before .before .if4 .left, sym (c .before .before .before .before .before .before .before .same-bytes5 .ensures) ∙ c .before .before .before .before .before .before .if5 .left, sym (c .before .before .before .before .same-bytes6 .ensures) ∙ c .before .before .before .if6 .left, sym (c .before .same-bytes7 .ensures) ∙ c .if7 .taken)
-
-slice-aggregate-same-bytes-8 : tie.Need-slice-aggregate-same-bytes-8
-slice-aggregate-same-bytes-8 c = search needs
-
-same-bytes-requires-8 : tie.Need-same-bytes-requires-8
-same-bytes-requires-8 c κs = search needs
-
-returns-8 : tie.Need-returns-8
-unfolding namedAmong
-returns-8 c = rw (sym (c .before .before .before .before .before .before .before .before .before .before .before .before .before .before .before .before .before .before .before .before .before .before .same-bytes .ensures) ∙ c .before .before .before .before .before .before .before .before .before .before .before .before .before .before .before .before .before .before .before .before .before .if1 .left, sym (c .before .before .before .before .before .before .before .before .before .before .before .before .before .before .before .before .before .before .before .same-bytes2 .ensures) ∙ c .before .before .before .before .before .before .before .before .before .before .before .before .before .before .before .before .before .before .if2 .left, sym (c .before .before .before .before .before .before .before .before .before .before .before .before .before .before .before .before .same-bytes3 .ensures) ∙ c .before .before .before .before .before .before .before .before .before .before .before .before .before .before .before .if3 .left, sym (c .before .before .before .before .before .before .before .before .before .before .before .before .before .same-bytes4 .ensures) ∙ c .before .before .before .before .before .before .before .before .before .before .before .before .if4 .left, sym (c .before .before .before .before .before .before .before .before .before .before .same-bytes5 .ensures) ∙ c .before .before .before .before .before .before .before .before .before .if5 .left, sym (c .before .before .before .before .before .before .before .same-bytes6 .ensures) ∙ c .before .before .before .before .before .before .if6 .left, sym (c .before .before .before .before .same-bytes7 .ensures) ∙ c .before .before .before .if7 .left, sym (c .before .same-bytes8 .ensures) ∙ c .if8 .taken)
-
-returns-9 : tie.Need-returns-9
-unfolding namedAmong
-returns-9 c = rw (sym (c .before .before .before .before .before .before .before .before .before .before .before .before .before .before .before .before .before .before .before .before .before .before .same-bytes .ensures) ∙ c .before .before .before .before .before .before .before .before .before .before .before .before .before .before .before .before .before .before .before .before .before .if1 .left, sym (c .before .before .before .before .before .before .before .before .before .before .before .before .before .before .before .before .before .before .before .same-bytes2 .ensures) ∙ c .before .before .before .before .before .before .before .before .before .before .before .before .before .before .before .before .before .before .if2 .left, sym (c .before .before .before .before .before .before .before .before .before .before .before .before .before .before .before .before .same-bytes3 .ensures) ∙ c .before .before .before .before .before .before .before .before .before .before .before .before .before .before .before .if3 .left, sym (c .before .before .before .before .before .before .before .before .before .before .before .before .before .same-bytes4 .ensures) ∙ c .before .before .before .before .before .before .before .before .before .before .before .before .if4 .left, sym (c .before .before .before .before .before .before .before .before .before .before .same-bytes5 .ensures) ∙ c .before .before .before .before .before .before .before .before .before .if5 .left, sym (c .before .before .before .before .before .before .before .same-bytes6 .ensures) ∙ c .before .before .before .before .before .before .if6 .left, sym (c .before .before .before .before .same-bytes7 .ensures) ∙ c .before .before .before .if7 .left, sym (c .before .same-bytes8 .ensures) ∙ c .if8 .left)
+returns c = let d = c .before .before .before .before .before .before .before .before in
+    rw (c .named-or8 .ensures, c .before .before .named-or7 .ensures, c .before .before .before .before .named-or6 .ensures, c .before .before .before .before .before .before .named-or5 .ensures, d .named-or4 .ensures, d .before .before .named-or3 .ensures, d .before .before .before .before .named-or2 .ensures, d .before .before .before .before .before .before .named-or .ensures)
 
 pub model-named-spec : {M : Type 1} → statement M
 model-named-spec =
     tie.close
     (tie.spec
-    slice-aggregate-same-bytes
-    same-bytes-requires
-    returns
-    slice-aggregate-same-bytes-2
-    same-bytes-requires-2
-    returns-2
-    slice-aggregate-same-bytes-3
-    same-bytes-requires-3
-    returns-3
-    slice-aggregate-same-bytes-4
-    same-bytes-requires-4
-    returns-4
-    slice-aggregate-same-bytes-5
-    same-bytes-requires-5
-    returns-5
-    slice-aggregate-same-bytes-6
-    same-bytes-requires-6
-    returns-6
-    slice-aggregate-same-bytes-7
-    same-bytes-requires-7
-    returns-7
-    slice-aggregate-same-bytes-8
-    same-bytes-requires-8
-    returns-8
-    returns-9)
+    slice-aggregate-named-or
+    named-or-requires
+    slice-aggregate-named-or-2
+    named-or-requires-2
+    slice-aggregate-named-or-3
+    named-or-requires-3
+    slice-aggregate-named-or-4
+    named-or-requires-4
+    slice-aggregate-named-or-5
+    named-or-requires-5
+    slice-aggregate-named-or-6
+    named-or-requires-6
+    slice-aggregate-named-or-7
+    named-or-requires-7
+    slice-aggregate-named-or-8
+    named-or-requires-8
+    returns)
