@@ -50,11 +50,17 @@ impl CommunicationType {
 
 // ---- the protocol command
 
-// A protocol command is 0 (private), 1 (CANopen) or 2 (MIT); any other is 12.
+pub const PROTOCOL_PRIVATE: u8 = 0;
+
+pub const PROTOCOL_CANOPEN: u8 = 1;
+
+pub const PROTOCOL_MIT: u8 = 2;
+
+// A protocol command is one of the three; any other is 12.
 pub fn validate_protocol_cmd(protocol_cmd: u8) -> Checked
     ensures { λ r. ⌜ r ≡ protocolChecked «protocol_cmd» ⌝ }
 {
-    if protocol_cmd > 2 {
+    if protocol_cmd > PROTOCOL_MIT {
         return Checked::Refused(Refusal::UnknownProtocol);
     }
     Checked::Passed

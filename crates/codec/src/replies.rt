@@ -1,6 +1,7 @@
 // The replies to a ping and to a version request.
 use crate::error::Checked;
 use crate::error::Refusal;
+use crate::protocol::CommunicationType;
 use crate::protocol::ext_id_parts;
 ghost use mathlib.Core.Path.{_≡_};
 ghost use Rattle.codec.specs.Replies.{versionRequest, isVersion, noVersion, aVersion, versionAnswer, noPing, aPing, pingAnswer};
@@ -28,11 +29,13 @@ pub struct VersionAnswer {
     pub reply: VersionReply,
 }
 
+pub const VERSION_REQUEST_MARKER: u8 = 0xC4;
+
 // The payload that, in a type 4 frame, asks for the firmware's version.
 pub fn encode_version_request() -> [u8; 8]
     ensures { λ r. ⌜ r ≡ versionRequest ⌝ }
 {
-    [0, 0xC4, 0, 0, 0, 0, 0, 0]
+    [0, VERSION_REQUEST_MARKER, 0, 0, 0, 0, 0, 0]
 }
 
 // Whether a frame is a version reply: type 2, and a payload that begins 00 C4 56.
@@ -40,7 +43,7 @@ pub fn is_version_reply(arbitration_id: u32, payload: [u8; 8]) -> bool
     ensures { λ r. ⌜ r ≡ isVersion «arbitration_id» payload ⌝ }
 {
     let parts = ext_id_parts(arbitration_id);
-    if parts.comm_type != 2 {
+    if parts.comm_type != CommunicationType::OPERATION_STATUS {
         return false;
     }
     if payload[0] != 0x00 {
@@ -118,7 +121,7 @@ pub fn decode_ping_reply(arbitration_id: u32, payload: [u8; 8]) -> PingAnswer
     ensures { λ r. ⌜ r ≡ pingAnswer «arbitration_id» payload ⌝ }
 {
     let parts = ext_id_parts(arbitration_id);
-    if parts.comm_type != 0 {
+    if parts.comm_type != CommunicationType::GET_DEVICE_ID {
         return not_ping_reply();
     }
     passed_ping(PingReply {
