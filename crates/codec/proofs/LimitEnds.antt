@@ -2,7 +2,7 @@
 -- and a NaN's raw is 0. Assumes nothing.
 use mathlib.Core.Path.{_≡_, refl, sym, ap, _∙_, subst}
 use mathlib.Core.Bool.{Bool, true, false, cond}
-use Prim.Native.Nat.{ℕ, zero, suc, _*_, _/_, _^_, _<_, min, zero-le}
+use Prim.Native.Nat.{ℕ, zero, suc, _*_, _/_, _^_, _<_, min}
 use native.Mathlib.Nat.{zero-lt-suc, zero-mul, mul-pos}
 use native.Mathlib.Omega.{arith}
 use borrow.Author.Tests.{le-ltb}

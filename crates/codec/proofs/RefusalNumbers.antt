@@ -1,14 +1,14 @@
 -- A refusal is known by its number and its values: no two share both. Assumes nothing.
-use mathlib.Core.Path.{_≡_, refl, sym, ap, ap₂, _∙_}
+use mathlib.Core.Path.{_≡_, refl, sym, ap₂, _∙_}
 use mathlib.Core.List.{List, [], _∷_}
-use Prim.Native.Nat.{ℕ, zero, suc}
+use Prim.Native.Nat.{ℕ}
 use lib.IntN.{ℤ, pos, natAbs}
 use lib.ListN.{getD}
 use Rattle.codec.specs.declared.error.LastMode.{LastMode}
 use Rattle.codec.specs.declared.error.LastMode.the-variants.{Unread, Read}
 use Rattle.codec.specs.declared.error.Refusal.{Refusal}
 use Rattle.codec.specs.declared.error.Refusal.the-variants.{MotorIdOutOfRange, HostIdOutOfRange, UnknownModel, StationFull, IdRegistered, IdNotRegistered, TimeOutOfRange, OperationRunning, TimeoutTooLong, UnlistedParameter, KindDiffers, UnknownProtocol, FrameNotAccepted, ReadFailed, ReadingsFull, WindowsGone, UnsupportedRunMode, ModeNotReached, NewDeviceIdZero, ReadingOfAnotherKind, NothingRunning, NotPingReply, NotVersionReply}
-use Rattle.codec.specs.Refusals.{numberOf, valuesOf, lastOf}
+use Rattle.codec.specs.Refusals.{numberOf, valuesOf}
 
 lastFrom : List ℤ → LastMode
 lastFrom [] = Unread

@@ -1,8 +1,8 @@
 -- Ids joined and split, values encoded and decoded: each way back. Assumes nothing.
-use mathlib.Core.Path.{_≡_, refl, sym, ap, _∙_}
-use mathlib.Core.Bool.{Bool, true, false, cond}
-use mathlib.Core.List.{List, [], _∷_}
-use Prim.Native.Nat.{ℕ, _+_, _*_, _/_, _%_, _^_, _<_}
+use mathlib.Core.Path.{_≡_, refl, sym, ap}
+use mathlib.Core.Bool.{true}
+use mathlib.Core.List.{List}
+use Prim.Native.Nat.{ℕ, _*_, _%_, _^_, _<_}
 use native.Mathlib.Nat.{mod-eq-of-lt}
 use native.Mathlib.Omega.{arith}
 use lib.Dec.{eqb}
@@ -10,17 +10,15 @@ use lib.Signed.{mag}
 use mir.Facts.{toZ-ofZ, ofZ-toZ}
 use mir.Syntax.{w8}
 use Rattle.codec.proofs.TwosComplement.{byte-lt}
-use Rattle.codec.specs.declared.protocol.IdParts.{IdParts}
 use Rattle.codec.specs.declared.protocol.ParameterValue.{ParameterValue}
 use Rattle.codec.specs.declared.protocol.ParameterValue.the-variants.{I8, U8, U16, U32, F32}
 use Rattle.codec.specs.declared.protocol.EncodedValue.the-variants.{Raw}
 use Rattle.codec.specs.declared.registers.ParameterDataType.{ParameterDataType}
 use Rattle.codec.specs.declared.registers.ParameterDataType.the-variants.{Int8, UInt8, UInt16, UInt32, Float32}
-use Rattle.codec.specs.declared.registers.ParameterInfo.{ParameterInfo}
-use Rattle.codec.specs.declared.registers.ParameterInfo.the-variants.{Listed, Unlisted}
+use Rattle.codec.specs.declared.registers.ParameterInfo.the-variants.{Listed}
 use Rattle.codec.specs.Ids.{joined, split, typeOf, extraOf, nodeOf}
 use Rattle.codec.specs.Kinds.{kindNumber, infoOf}
-use Rattle.codec.specs.Values.{le32, widthOf, valueAs, kindIn, rawOf, encodedBy, encodedValue, writePayload, readValue, valueBy}
+use Rattle.codec.specs.Values.{le32, widthOf, valueAs, kindIn, rawOf, encodedValue, writePayload, readValue}
 
 -- ---- ids
 

@@ -8,7 +8,7 @@ use lib.IntN.{ℤ, pos, negsuc, _+ℤ_, _-ℤ_}
 use lib.Signed.{mag, ltZ}
 use mir.Facts.{toZ-ofZ}
 use mir.Syntax.{w8, w16}
-use mir.Val.{SFits, ofZ, toZ}
+use mir.Val.{ofZ, toZ}
 
 -- ---- from a signed number to its byte
 

@@ -1,14 +1,14 @@
 -- The words of `f32` values: how many units a word has, and in which order. Assumes nothing.
-use mathlib.Core.Path.{_≡_, refl, sym, ap, _∙_, subst}
+use mathlib.Core.Path.{_≡_, sym, ap, _∙_, subst}
 use mathlib.Core.Logic.{_⊎_, inl, inr}
-use mathlib.Core.Bool.{Bool, true, false, not, cond}
+use mathlib.Core.Bool.{Bool, cond}
 use Prim.Native.Nat.{ℕ, zero, suc, _+_, _*_, _/_, _%_, _^_, _≤_, _<_}
 use native.Mathlib.Nat.{le-trans, le-of-eq, le-of-lt, lt-of-lt-of-le, lt-of-le-of-lt, eq-or-lt-of-le, mul-one, mul-le-mul-right, mul-lt-mul-of-pos-right, mod-lt}
 use native.Mathlib.Omega.{arith}
 use lib.Dec.{T, leb, eqb, eqb→eq, not-T, lit<}
 use lib.Bits.{bitAnd, bitOr, and-mask, or-shifted-r}
 use lib.Pow.{pow-pos, pow-add, pow-mono, mod-mod-pow}
-use lib.Ieee.{Float, nan, inf, fin, binary32, odd, ofFields, ofBits}
+use lib.Ieee.{Float, nan, inf, binary32, odd, ofFields, ofBits}
 use lib.Ieee.Bits.{cond-no}
 use lib.Ieee.Exact.{HasValue, odd-sign}
 use Rattle.codec.proofs.Rounded.{U}

@@ -1,5 +1,5 @@
 -- A word and its value: back and forth, every word but a NaN's and every `f32` stays. Assumes nothing.
-use mathlib.Core.Path.{_≡_, ap}
+use mathlib.Core.Path.{_≡_}
 use mathlib.Core.Bool.{not}
 use Prim.Native.Nat.{_^_, _<_}
 use lib.Dec.{T}

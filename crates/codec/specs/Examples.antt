@@ -1,11 +1,11 @@
 -- Marked for proof: document 01's starred examples of the codec, as one table and one theorem, which antt computes. Assumes nothing.
 -- A float on the right of a row is a literal: were both sides calls, antt would compare the calls and not their values.
 use mathlib.Core.Path.{_≡_, refl}
-use mathlib.Core.Bool.{true, false}
+use mathlib.Core.Bool.{false}
 use mathlib.Core.List.{List, [], _∷_}
 use Prim.Native.Nat.{ℕ}
 use lib.IntN.{pos, negsuc}
-use lib.Ieee.{Float, nan, fin, binary32, toUnsigned, mul, add, sub, div, neg, lt, ofInt, ofBits}
+use lib.Ieee.{Float, nan, fin, toUnsigned, mul, add, sub, div, neg, lt, ofInt, ofBits}
 use Rattle.codec.specs.declared.model.Model.the-variants.{Rs00}
 use Rattle.codec.specs.declared.motion.MitCommand.{MitCommand}
 use Rattle.codec.specs.declared.protocol.ParameterValue.{ParameterValue}

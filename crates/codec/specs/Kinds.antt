@@ -1,6 +1,6 @@
 -- Parameter kinds: the 62 ids of `PARAMETER_TABLE`, and the kind of each. Definitions only.
 use Prim.Native.Nat.{ℕ}
-use mathlib.Core.Bool.{Bool, true, false, cond, _||_}
+use mathlib.Core.Bool.{Bool, false, cond, _||_}
 use mathlib.Core.List.{List, [], _∷_}
 use lib.Dec.{eqb}
 use Rattle.codec.specs.declared.registers.ParameterDataType.{ParameterDataType}

@@ -4,7 +4,6 @@ use mathlib.Core.Bool.{Bool, cond, _&&_}
 use mathlib.Core.List.{List, [], _∷_}
 use lib.Dec.{eqb, ltb}
 use lib.ListN.{getD}
-use Rattle.codec.specs.declared.error.Refusal.{Refusal}
 use Rattle.codec.specs.declared.error.Refusal.the-variants.{UnknownProtocol, NotPingReply, NotVersionReply}
 use Rattle.codec.specs.declared.error.Checked.{Checked}
 use Rattle.codec.specs.declared.error.Checked.the-variants.{Passed, Refused}
