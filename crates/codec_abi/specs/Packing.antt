@@ -1,0 +1,26 @@
+-- Payloads, refusals and flags as numbers. Definitions only.
+use Prim.Native.Nat.{ℕ, _+_, _*_, _/_, _%_, _^_}
+use mathlib.Core.Bool.{Bool, cond}
+use mathlib.Core.List.{List, [], _∷_}
+use Rattle.codec.specs.declared.error.Checked.{Checked}
+use Rattle.codec.specs.declared.error.Checked.the-variants.{Passed, Refused}
+use Rattle.codec.specs.Refusals.{numberOf}
+use Rattle.codec.specs.Values.{le32}
+
+-- the payload of a number, the lowest byte first
+abbrev pub payloadOf : ℕ → List ℕ
+payloadOf n =
+    n % 256 ∷ n / 2 ^ 8 % 256 ∷ n / 2 ^ 16 % 256 ∷ n / 2 ^ 24 % 256 ∷ n / 2 ^ 32 % 256 ∷ n / 2 ^ 40 % 256 ∷ n / 2 ^ 48 % 256 ∷ n / 2 ^ 56 % 256 ∷ []
+
+-- the number of a payload
+abbrev pub packed : List ℕ → ℕ
+packed payload = le32 payload 0 + le32 payload 4 * 2 ^ 32
+
+-- a refusal's number, 0 where there is none
+abbrev pub refusalIn : Checked → ℕ
+refusalIn Passed = 0
+refusalIn (Refused refusal) = numberOf refusal
+
+-- what a flag adds to a word of flags
+abbrev pub flag : Bool → ℕ → ℕ
+flag set weight = cond set weight 0

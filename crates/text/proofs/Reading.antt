@@ -1,0 +1,95 @@
+-- What one more digit, and one more byte of a line, do to what is read. Assumes nothing.
+use Prim.Native.Nat.{ℕ, zero, suc, _+_, _*_, _-_, _/_, _≤_, _<_}
+use mathlib.Core.Path.{_≡_, refl, ap, sym, _∙_}
+use mathlib.Core.List.{List, [], _∷_}
+use native.Mathlib.Omega.{arith}
+use native.Mathlib.Numerals.{add-one}
+use native.Mathlib.Nat.{le-div-iff-mul-le, div-lt-iff-lt-mul}
+use lib.ListN.{length, take, drop, getD, length-drop}
+use lib.Seq.{drop-cons, drop-length, drop-nil, take-length, take-all}
+use Rattle.bytes.specs.Bytes.{indexOf, slice}
+use borrow.Author.Tests.{lt-ltb, le-ltb, eq-eqb, ne-eqb}
+use Rattle.text.specs.declared.numbers.Num.{Num}
+use Rattle.text.specs.declared.numbers.Num.the-variants.{Value, Bad}
+use Rattle.text.specs.Numbers.{digitOf, readFrom, inBase}
+use Rattle.text.specs.Words.{wordsIn, wordAt}
+
+-- the test before a multiplication is right: it refuses what reaches 2^64, and nothing else
+pub over : (base d n : ℕ) → 0 < base → d < base → base ≤ 16 → (18446744073709551615 - d) / base < n → 18446744073709551616 ≤ n * base + d
+over base d n b l s h = let p : 18446744073709551615 - d < n * base = div-lt-iff-lt-mul b .0 h in omega arith
+
+pub within : (base d n : ℕ) → 0 < base → d < base → base ≤ 16 → n ≤ (18446744073709551615 - d) / base → n * base + d < 18446744073709551616
+within base d n b l s h = let p : n * base ≤ 18446744073709551615 - d = le-div-iff-mul-le b .0 h in omega arith
+
+pub some : (base : ℕ) (s : List ℕ) → 0 < length s → inBase base s ≡ readFrom base 0 s
+unfolding inBase
+some base [] h = absurd (omega arith)
+some base (b ∷ s) h = refl
+
+pub none : (base : ℕ) (s : List ℕ) → length s ≡ 0 → inBase base s ≡ Bad
+unfolding inBase
+none base [] h = refl
+none base (b ∷ s) h = absurd (omega arith)
+
+pub read-done : (base n : ℕ) (s : List ℕ) → readFrom base n (drop (length s) s) ≡ Value n
+unfolding readFrom
+read-done base n s = rw drop-length
+
+module _ (base n : ℕ) (s : List ℕ) (i : ℕ) (h : i < length s) where
+  pub read-stop : base ≤ digitOf (getD s i 0) → readFrom base n (drop i s) ≡ Bad
+  unfolding readFrom
+  read-stop l = rw (drop-cons s i 0 h, le-ltb _ _ l)
+
+  pub read-over : digitOf (getD s i 0) < base → 18446744073709551616 ≤ n * base + digitOf (getD s i 0) → readFrom base n (drop i s) ≡ Bad
+  unfolding readFrom
+  read-over l o = rw (drop-cons s i 0 h, lt-ltb _ _ l, le-ltb _ _ o)
+
+  pub read-on : digitOf (getD s i 0) < base → n * base + digitOf (getD s i 0) < 18446744073709551616 → readFrom base n (drop i s) ≡ readFrom base (n * base + digitOf (getD s i 0)) (drop (i + 1) s)
+  unfolding readFrom
+  read-on l o = rw (drop-cons s i 0 h, lt-ltb _ _ l, lt-ltb _ _ o, add-one)
+
+module _ (s : List ℕ) (i : ℕ) (h : i < length s) where
+  pub words-space : getD s i 0 ≡ 32 → wordsIn (drop i s) ≡ wordsIn (drop (i + 1) s) + 1
+  unfolding wordsIn
+  words-space e = rw (drop-cons s i 0 h, eq-eqb _ _ e, add-one i)
+
+  pub words-other : (getD s i 0 ≡ 32 → ⊥) → wordsIn (drop i s) ≡ wordsIn (drop (i + 1) s)
+  unfolding wordsIn
+  words-other e = rw (drop-cons s i 0 h, ne-eqb _ _ e, add-one i)
+
+pub words-done : (s : List ℕ) → wordsIn (drop (length s) s) ≡ 1
+unfolding wordsIn
+words-done s = rw drop-length
+
+-- a search of the whole of s
+pub whole : (s : List ℕ) → 0 + indexOf 32 (slice 0 (length s) s) ≡ indexOf 32 s
+unfolding slice
+whole s = rw take-length (omega arith)
+
+drop-past : (n : ℕ) (s : List ℕ) → length s ≤ n → drop n s ≡ []
+drop-past n [] h = drop-nil n
+drop-past zero (b ∷ s) h = absurd (omega arith)
+drop-past (suc n) (b ∷ s) h = drop-past n s (omega arith)
+
+nothing : (k : ℕ) → wordAt [] k ≡ []
+unfolding wordAt indexOf
+nothing zero = refl
+nothing (suc k) = nothing k
+
+pub word-first : (s : List ℕ) (k e : ℕ) → k ≡ 0 → e ≡ 0 + indexOf 32 (slice 0 (length s) s) → take e s ≡ wordAt s k
+unfolding wordAt
+word-first s k e z f = rw (z, f, whole s)
+
+pub word-next : (s : List ℕ) (k e : ℕ) → (k ≡ 0 → ⊥) → e ≡ 0 + indexOf 32 (slice 0 (length s) s) → wordAt (drop (e + 1) s) (k - 1) ≡ wordAt s k
+unfolding wordAt
+word-next s zero e z f = absurd (z refl)
+word-next s (suc k) e z f = let p : suc k - 1 ≡ k = omega arith in rw (p, f, whole s)
+
+pub word-past : (s : List ℕ) (k e : ℕ) → (k ≡ 0 → ⊥) → e ≡ 0 + indexOf 32 (slice 0 (length s) s) → length s ≤ e → drop e s ≡ wordAt s k
+word-past s k e z f h =
+    let d : drop (e + 1) s ≡ [] = drop-past (e + 1) s (omega arith) in
+    drop-past e s h ∙ sym (nothing (k - 1)) ∙ (rw d at (word-next s k e z f))
+
+-- a part to the end of s is s from there on
+pub to-end : (n : ℕ) (s : List ℕ) → take (length s - n) (drop n s) ≡ drop n s
+to-end n s = take-all (length s - n) (drop n s) (rw length-drop (omega arith))

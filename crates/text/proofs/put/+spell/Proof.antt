@@ -1,0 +1,144 @@
+use native.Mathlib.Omega.{arith}
+use borrow.Author.Needs.{needs}
+use mathlib.Core.Path.{_∙_}
+use Rattle.text.proofs.Putting.{put-nil, put-then, digits-none, digits-more}
+use native.Mathlib.Nat.{mod-lt}
+use Prim.Native.Nat.{ℕ, _<_}
+use borrow.Fn.Kinds.{In}
+use borrow.Fn.PlainCycle.{Measures, is, falls, and}
+use Rattle.text.proofs.put.spell.Reads as spell
+use Rattle.text.proofs.put.spell.Kinds as spell-kinds
+use Rattle.text.proofs.put.+spell.Lts-spell as spell-lts
+use Rattle.text.proofs.put.glyph.Reads as glyph-reads
+use Rattle.text.proofs.put.put_byte.Reads as put-byte-reads
+use Rattle.text.proofs.put.+spell.{statement}
+use Rattle.text.proofs.put.+spell.Tie.{close}
+
+abbrev μ-spell : Measures 1 spell-kinds.ps ℕ
+μ-spell κs a = a .1 .1 .1 .1 .0
+
+abbrev spell-at : ℕ → In 1 spell-kinds.ps
+spell-at t = and 1 spell-kinds.ps (is 1 spell-kinds.ps μ-spell t) spell.Pre
+
+abbrev spell-below : ℕ → In 1 spell-kinds.ps
+spell-below t = and 1 spell-kinds.ps (falls 1 spell-kinds.ps _<_ μ-spell t) spell.Pre
+
+-- src/put.rt:56:9
+spell-returns : (t : ℕ) → spell-lts.Need-returns (
+  spell-below t,
+  spell.Post,
+  glyph-reads.Asked,
+  glyph-reads.Learnt,
+  put-byte-reads.Asked,
+  put-byte-reads.Learnt,
+) (spell-at t) spell.Post
+spell-returns t c = rw (digits-none _ _ _ (c .if1 .taken)) (put-nil _ _)
+
+-- src/put.rt:58:28
+spell-div-spell : (t : ℕ) → spell-lts.Need-div-spell (
+  spell-below t,
+  spell.Post,
+  glyph-reads.Asked,
+  glyph-reads.Learnt,
+  put-byte-reads.Asked,
+  put-byte-reads.Learnt,
+) (spell-at t) spell.Post
+spell-div-spell t c = search needs
+
+-- src/put.rt:58:44
+spell-sub-spell : (t : ℕ) → spell-lts.Need-sub-spell (
+  spell-below t,
+  spell.Post,
+  glyph-reads.Asked,
+  glyph-reads.Learnt,
+  put-byte-reads.Asked,
+  put-byte-reads.Learnt,
+) (spell-at t) spell.Post
+spell-sub-spell t c = search needs
+
+-- src/put.rt:58:9
+spell-spell-requires : (t : ℕ) → spell-lts.Need-spell-requires (
+  spell-below t,
+  spell.Post,
+  glyph-reads.Asked,
+  glyph-reads.Learnt,
+  put-byte-reads.Asked,
+  put-byte-reads.Learnt,
+) (spell-at t) spell.Post
+spell-spell-requires t c κs = (omega (arith, c .before .before .before .pre .0), c .before .before .before .pre .1)
+
+-- src/put.rt:59:28
+spell-rem-glyph : (t : ℕ) → spell-lts.Need-rem-glyph (
+  spell-below t,
+  spell.Post,
+  glyph-reads.Asked,
+  glyph-reads.Learnt,
+  put-byte-reads.Asked,
+  put-byte-reads.Learnt,
+) (spell-at t) spell.Post
+spell-rem-glyph t c = search needs
+
+-- src/put.rt:59:22
+spell-glyph-requires : (t : ℕ) → spell-lts.Need-glyph-requires (
+  spell-below t,
+  spell.Post,
+  glyph-reads.Asked,
+  glyph-reads.Learnt,
+  put-byte-reads.Asked,
+  put-byte-reads.Learnt,
+) (spell-at t) spell.Post
+spell-glyph-requires t c κs = omega (arith, c .before .before .before .before .before .before .before .pre .1, mod-lt (c .before .before .before .before .before .before .before .args .n) {m = c .before .before .before .before .before .before .before .args .base} (omega (arith, c .before .before .before .before .before .before .before .pre .1)))
+
+-- src/put.rt:59:5
+spell-put-byte-requires : (t : ℕ) → spell-lts.Need-put-byte-requires (
+  spell-below t,
+  spell.Post,
+  glyph-reads.Asked,
+  glyph-reads.Learnt,
+  put-byte-reads.Asked,
+  put-byte-reads.Learnt,
+) (spell-at t) spell.Post
+spell-put-byte-requires t c κs = search needs
+
+-- src/put.rt:51:1
+spell-same-length : (t : ℕ) → spell-lts.Need-same-length (
+  spell-below t,
+  spell.Post,
+  glyph-reads.Asked,
+  glyph-reads.Learnt,
+  put-byte-reads.Asked,
+  put-byte-reads.Learnt,
+) (spell-at t) spell.Post
+spell-same-length t c = c .before .before .put-byte .ensures .same ∙ c .before .before .before .before .before .before .before .spell .ensures .same
+
+-- src/put.rt:51:1
+spell-returns-2 : (t : ℕ) → spell-lts.Need-returns-2 (
+  spell-below t,
+  spell.Post,
+  glyph-reads.Asked,
+  glyph-reads.Learnt,
+  put-byte-reads.Asked,
+  put-byte-reads.Learnt,
+) (spell-at t) spell.Post
+spell-returns-2 t c = rw (digits-more _ _ _ (c .before .before .before .before .before .before .before .before .before .if1 .left), ← c .before .before .before .glyph .ensures) (put-then (c .before .before .before .before .before .before .before .spell .ensures) (c .before .before .put-byte .ensures))
+
+pub +spell-spec : {M : Type 1} → statement M
++spell-spec = close μ-spell λ t. spell-lts.spec (
+  spell-below t,
+  spell.Post,
+  glyph-reads.Asked,
+  glyph-reads.Learnt,
+  put-byte-reads.Asked,
+  put-byte-reads.Learnt,
+)
+    (spell-at t)
+    spell.Post
+    (spell-returns t)
+    (spell-div-spell t)
+    (spell-sub-spell t)
+    (spell-spell-requires t)
+    (spell-rem-glyph t)
+    (spell-glyph-requires t)
+    (spell-put-byte-requires t)
+    (spell-same-length t)
+    (spell-returns-2 t)

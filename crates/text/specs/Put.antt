@@ -1,0 +1,30 @@
+-- What is put into a buffer. Definitions only.
+use Prim.Native.Nat.{ℕ, zero, suc, _+_, _/_, _%_, _≤_}
+use mathlib.Core.Path.{_≡_}
+use mathlib.Core.Bool.{cond}
+use mathlib.Core.List.{List, [], _∷_, _++_}
+use lib.ListN.{length, take}
+use lib.Dec.{ltb}
+
+-- the bytes bs were put at a place of a buffer that has room for them, and r is the next place
+pub record Put (before : List ℕ) (at : ℕ) (bs : List ℕ) (after : List ℕ) (r : ℕ) : Type 0 where
+  pub same : length after ≡ length before
+  pub next : at + length bs ≤ length before → r ≡ at + length bs
+  pub text : at + length bs ≤ length before → take r after ≡ take at before ++ bs
+
+-- a digit below 16: 0 to 9, then A to F
+unfoldable pub glyphOf : ℕ → ℕ
+glyphOf d = cond (ltb d 10) (48 + d) (55 + d)
+
+-- the last k digits of n in base
+unfoldable pub digitsOf : ℕ → ℕ → ℕ → List ℕ
+digitsOf base zero n = []
+digitsOf base (suc k) n = digitsOf base k (n / base) ++ (glyphOf (n % base) ∷ [])
+
+-- n in decimal, of at most k digits, with no zero in front
+unfoldable pub decimalIn : ℕ → ℕ → List ℕ
+decimalIn zero n = []
+decimalIn (suc k) n = cond (ltb n 10) (glyphOf n ∷ []) (decimalIn k (n / 10) ++ (glyphOf (n % 10) ∷ []))
+
+abbrev pub decimalOf : ℕ → List ℕ
+decimalOf n = decimalIn 20 n
