@@ -17,5 +17,7 @@ pub extern "C" fn codec_ext_id_parts(arbitration_id: u32) -> u64
     ensures { λ r. ⌜ r ≡ partsNumber (split «arbitration_id») ⌝ }
 {
     let parts = codec::protocol::ext_id_parts(arbitration_id);
-    (parts.comm_type as u64) * 0x1_0000_0000 + (parts.extra_data as u64) * 0x1_0000 + (parts.node_id as u64)
+    (parts.comm_type as u64) * 0x1_0000_0000
+        + (parts.extra_data as u64) * 0x1_0000
+        + (parts.node_id as u64)
 }

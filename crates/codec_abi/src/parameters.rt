@@ -1,4 +1,7 @@
 // Parameters, run modes and the protocol command.
+use crate::packing::packed;
+use crate::packing::payload_of;
+use crate::packing::refusal_in;
 use codec::protocol::EncodedValue;
 use codec::protocol::ParameterValue;
 use codec::registers::ControlMode;
@@ -8,9 +11,6 @@ use codec::registers::ParameterInfo;
 use codec::word::Word;
 use codec::word::byte_of;
 use codec::word::signed_of;
-use crate::packing::packed;
-use crate::packing::payload_of;
-use crate::packing::refusal_in;
 ghost use mathlib.Core.Path.{_≡_};
 ghost use Rattle.codec.specs.Kinds.{infoOf, kindNumber};
 ghost use Rattle.codec.specs.Modes.{modeRead};

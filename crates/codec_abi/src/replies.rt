@@ -1,10 +1,10 @@
 // Fault reports, ping replies and version replies.
-use codec::faults::FaultFlags;
 use crate::packing::flag;
 use crate::packing::joined;
 use crate::packing::packed;
 use crate::packing::payload_of;
 use crate::packing::refusal_in;
+use codec::faults::FaultFlags;
 ghost use mathlib.Core.Path.{_≡_};
 ghost use Prim.Native.Nat.{_≤_};
 ghost use Rattle.codec.specs.Faults.{faultReport};
@@ -52,7 +52,9 @@ pub extern "C" fn codec_decode_ping_reply(id: u32, payload: u64, out: &mut u64) 
     let reply = answer.reply;
     let bytes = reply.payload;
     *out = packed(bytes);
-    (refusal_in(said) as u32) * 0x1_0000 + (reply.device_id as u32) * 0x100 + (reply.responder_id as u32)
+    (refusal_in(said) as u32) * 0x1_0000
+        + (reply.device_id as u32) * 0x100
+        + (reply.responder_id as u32)
 }
 
 // The payload of a version request.

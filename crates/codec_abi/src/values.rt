@@ -1,11 +1,11 @@
 // Floats, motion values and status values.
+use crate::packing::flag;
+use crate::packing::packed;
+use crate::packing::payload_of;
 use codec::model::Limits;
 use codec::model::ModelLimits;
 use codec::status::StatusFlags;
 use codec::word::Word;
-use crate::packing::flag;
-use crate::packing::packed;
-use crate::packing::payload_of;
 ghost use mathlib.Core.Path.{_≡_};
 ghost use Prim.Native.Nat.{_≤_};
 ghost use Rattle.codec.specs.Words.{valueOf, wordOf};
@@ -72,7 +72,13 @@ pub extern "C" fn codec_model_limits(name: &[u8], out: &mut [f32; 5]) -> u8
 {
     match codec::model::model_limits(name) {
         ModelLimits::Known(limits) => {
-            *out = [limits.position, limits.velocity, limits.torque, limits.kp, limits.kd];
+            *out = [
+                limits.position,
+                limits.velocity,
+                limits.torque,
+                limits.kp,
+                limits.kd,
+            ];
             0
         }
         ModelLimits::Refused(refusal) => {
@@ -145,7 +151,14 @@ pub extern "C" fn codec_decode_status_frame(
         kd: 0.0,
     };
     let frame = codec::status::decode_status_frame(extra_data, payload_of(payload), limits);
-    *values = [frame.position, frame.velocity, frame.torque, frame.temperature_c];
+    *values = [
+        frame.position,
+        frame.velocity,
+        frame.torque,
+        frame.temperature_c,
+    ];
     let flags = frame.flags;
-    (flags.mode_state as u32) + (flags.device_id as u32) * 0x100 + (status_bits(flags) as u32) * 0x1_0000
+    (flags.mode_state as u32)
+        + (flags.device_id as u32) * 0x100
+        + (status_bits(flags) as u32) * 0x1_0000
 }

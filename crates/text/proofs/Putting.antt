@@ -24,16 +24,16 @@ put-then {l₀} {l₁} {l₂} {a} {b} {p} {q} {r} x y =
     record {
       same = y .same ∙ x .same;
       next = λ h.
-        let h₁ : p + (length a + length b) ≤ length l₀ = rw length-append at h in
-        let n₁ : q ≡ p + length a = x .next (omega arith) in
-        let h₂ : q + length b ≤ length l₁ = omega (arith, x .same) in
-        let n₂ : r ≡ q + length b = y .next h₂ in
-        rw length-append (omega arith);
+          let h₁ : p + (length a + length b) ≤ length l₀ = rw length-append at h in
+          let n₁ : q ≡ p + length a = x .next (omega arith) in
+          let h₂ : q + length b ≤ length l₁ = omega (arith, x .same) in
+          let n₂ : r ≡ q + length b = y .next h₂ in
+          rw length-append (omega arith);
       text = λ h.
-        let h₁ : p + (length a + length b) ≤ length l₀ = rw length-append at h in
-        let n₁ : q ≡ p + length a = x .next (omega arith) in
-        let h₂ : q + length b ≤ length l₁ = omega (arith, x .same) in
-        y .text h₂ ∙ ap (λ (l : List ℕ). l ++ b) (x .text (omega arith)) ∙ append-assoc (take p l₀) a b
+          let h₁ : p + (length a + length b) ≤ length l₀ = rw length-append at h in
+          let n₁ : q ≡ p + length a = x .next (omega arith) in
+          let h₂ : q + length b ≤ length l₁ = omega (arith, x .same) in
+          y .text h₂ ∙ ap (λ (l : List ℕ). l ++ b) (x .text (omega arith)) ∙ append-assoc (take p l₀) a b;
     }
 
 pub digits-none : (base k n : ℕ) → k ≡ 0 → digitsOf base k n ≡ []

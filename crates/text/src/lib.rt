@@ -1,16 +1,16 @@
 // Text as bytes: the words of a line, the numbers that they stand for, and text put into a buffer.
-mod words;
 mod numbers;
 mod put;
+mod words;
 
-pub use words::word_count;
-pub use words::word;
 pub use numbers::Num;
-pub use numbers::number;
-pub use numbers::hex_word;
 pub use numbers::decimal_word;
-pub use put::put_bytes;
+pub use numbers::hex_word;
+pub use numbers::number;
 pub use put::put_byte;
+pub use put::put_bytes;
 pub use put::put_decimal;
 pub use put::put_hex;
 pub use put::put_places;
+pub use words::word;
+pub use words::word_count;

@@ -70,9 +70,9 @@ loop-again : tie.Need-loop-again Inv-loop μ-loop
 loop-again c = (
   omega arith,
   c .before .before .before .before .before .loop .inv .1
-    ∙ read-on (c .before .before .before .before .before .before .before .before .args .base) (c .before .before .before .before .before .loop .n) (c .before .before .before .before .before .before .before .before .args .w .now) (c .before .before .before .before .before .loop .i) (omega arith) (omega (arith, c .before .before .digit .ensures)) (omega (arith, c .before .before .digit .ensures, within (c .before .before .before .before .before .before .before .before .args .base) (c .before .before .digit .result) (c .before .before .before .before .before .loop .n) (omega arith) (omega arith) (omega arith) (c .if3 .left)))
-    ∙ rw (← c .before .before .digit .ensures),
-    )
+      ∙ read-on (c .before .before .before .before .before .before .before .before .args .base) (c .before .before .before .before .before .loop .n) (c .before .before .before .before .before .before .before .before .args .w .now) (c .before .before .before .before .before .loop .i) (omega arith) (omega (arith, c .before .before .digit .ensures)) (omega (arith, c .before .before .digit .ensures, within (c .before .before .before .before .before .before .before .before .args .base) (c .before .before .digit .result) (c .before .before .before .before .before .loop .n) (omega arith) (omega arith) (omega arith) (c .if3 .left)))
+      ∙ rw (← c .before .before .digit .ensures),
+)
 
 -- src/numbers.rt:69:1
 returns-4 : tie.Need-returns-4 Inv-loop μ-loop

@@ -1,0 +1,5 @@
+pub mod Requests
+pub mod Numbers
+pub mod Answers
+pub mod Replies
+pub mod Text
