@@ -39,11 +39,11 @@ at f (x ∷ xs) t (suc k) h = at f xs (and-r (f x) (every f xs) t) k (le-of-suc-
 
 -- ---- a row's digits name the kind of its id
 
-infoNumber : ParameterInfo → ℕ
+unfoldable pub infoNumber : ParameterInfo → ℕ
 infoNumber (Listed kind) = kindNumber kind
 infoNumber Unlisted = 0
 
-named : (i : ParameterInfo) → codedAs (infoNumber i) ≡ i
+pub named : (i : ParameterInfo) → codedAs (infoNumber i) ≡ i
 unfolding codedAs infoNumber
 named (Listed Int8) = refl
 named (Listed UInt8) = refl

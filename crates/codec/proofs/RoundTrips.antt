@@ -1,24 +1,27 @@
 -- Ids joined and split, values encoded and decoded: each way back. Assumes nothing.
-use mathlib.Core.Path.{_≡_, refl, sym, ap}
-use mathlib.Core.Bool.{true}
+use mathlib.Core.Path.{_≡_, refl, sym, ap, _∙_}
+use mathlib.Core.Bool.{Bool, true, false, cond}
 use mathlib.Core.List.{List}
 use Prim.Native.Nat.{ℕ, _*_, _%_, _^_, _<_}
 use native.Mathlib.Nat.{mod-eq-of-lt}
 use native.Mathlib.Omega.{arith}
-use lib.Dec.{eqb}
+use lib.Dec.{T, eqb, eqb→eq}
 use lib.Signed.{mag}
 use mir.Facts.{toZ-ofZ, ofZ-toZ}
 use mir.Syntax.{w8}
+use Rattle.codec.proofs.KindTable.{infoNumber, named}
 use Rattle.codec.proofs.TwosComplement.{byte-lt}
 use Rattle.codec.specs.declared.protocol.ParameterValue.{ParameterValue}
 use Rattle.codec.specs.declared.protocol.ParameterValue.the-variants.{I8, U8, U16, U32, F32}
-use Rattle.codec.specs.declared.protocol.EncodedValue.the-variants.{Raw}
+use Rattle.codec.specs.declared.error.Refusal.the-variants.{KindDiffers}
+use Rattle.codec.specs.declared.protocol.EncodedValue.the-variants.{Raw, Refused}
 use Rattle.codec.specs.declared.registers.ParameterDataType.{ParameterDataType}
 use Rattle.codec.specs.declared.registers.ParameterDataType.the-variants.{Int8, UInt8, UInt16, UInt32, Float32}
-use Rattle.codec.specs.declared.registers.ParameterInfo.the-variants.{Listed}
+use Rattle.codec.specs.declared.registers.ParameterInfo.{ParameterInfo}
+use Rattle.codec.specs.declared.registers.ParameterInfo.the-variants.{Listed, Unlisted}
 use Rattle.codec.specs.Ids.{joined, split, typeOf, extraOf, nodeOf}
-use Rattle.codec.specs.Kinds.{kindNumber, infoOf}
-use Rattle.codec.specs.Values.{le32, widthOf, valueAs, kindIn, rawOf, encodedValue, writePayload, readValue}
+use Rattle.codec.specs.Kinds.{kindNumber, codedAs, infoOf}
+use Rattle.codec.specs.Values.{le32, widthOf, valueAs, kindIn, rawOf, encodedBy, encodedValue, writePayload, readValue}
 
 -- ---- ids
 
@@ -68,15 +71,35 @@ kind-kept UInt16 n = refl
 kind-kept UInt32 n = refl
 kind-kept Float32 n = refl
 
+-- kinds of the same number are the same
+kind-by-number : (a b : ParameterDataType) → kindNumber a ≡ kindNumber b → Listed a ≡ Listed b
+unfolding infoNumber
+kind-by-number a b e = sym (named (Listed a)) ∙ ap codedAs e ∙ named (Listed b)
+
 -- ---- payloads
 
 -- the four bytes of a write's payload are its raw number
 pub write-raw : (id raw : ℕ) → raw < 2 ^ 32 → le32 (writePayload id raw) 4 ≡ raw
 write-raw id raw h = omega arith
 
--- a value that is encoded for a parameter and comes back in bytes 4 to 7 is decoded as it was
-pub echoed : (id : ℕ) (v : ParameterValue) (payload : List ℕ) → InRange v → infoOf id ≡ Listed (kindIn v) → le32 payload 4 ≡ rawOf v → readValue id payload ≡ v
-echoed id v payload h i e = rw (i, e) (value-raw v h)
+-- a value is accepted for writing only where the parameter is of its kind
+pub accepted : (i : ParameterInfo) (v : ParameterValue) (raw : ℕ) → encodedBy i v ≡ Raw raw → (i ≡ Listed (kindIn v)) × (rawOf v ≡ raw)
+accepted Unlisted v raw h =
+    let z : _≡_ {A = ℕ} 0 1 = cc in
+    absurd (omega arith)
+accepted (Listed kind) v raw h = go (eqb (kindNumber kind) (kindNumber (kindIn v))) (eqb→eq (kindNumber kind) (kindNumber (kindIn v))) h
+  where
+    go : (b : Bool) → (T b → kindNumber kind ≡ kindNumber (kindIn v)) → cond b (Raw (rawOf v)) (Refused KindDiffers) ≡ Raw raw → (Listed kind ≡ Listed (kindIn v)) × (rawOf v ≡ raw)
+    go true f e = (kind-by-number kind (kindIn v) (f tt), cc)
+    go false f e =
+        let z : _≡_ {A = ℕ} 0 1 = cc in
+        absurd (omega arith)
+
+-- echo: a value accepted for writing, whose four bytes come back in bytes 4 to 7, is decoded with its kind and bits
+pub echoed : (id raw : ℕ) (v : ParameterValue) (payload : List ℕ) → InRange v → encodedValue id v ≡ Raw raw → le32 payload 4 ≡ raw → readValue id payload ≡ v
+echoed id raw v payload h a e =
+    let k = accepted (infoOf id) v raw a in
+    rw (k .0, e, ← k .1) (value-raw v h)
 
 -- what is decoded for a listed parameter is of its kind, and is encoded as the bytes that the kind uses, the rest zero
 pub written-out : (id : ℕ) (kind : ParameterDataType) (payload : List ℕ) → le32 payload 4 < 2 ^ 32 → infoOf id ≡ Listed kind
