@@ -14,7 +14,7 @@ const ROOM: usize = 60000;
 
 // Answers the lines of the input until it ends. Nothing says that an input ends, so the turns are
 // counted down from a number that no run uses up.
-pub fn run(inp: &mut [u8], out: &mut [u8]) {
+pub(crate) fn run(inp: &mut [u8], out: &mut [u8]) {
     let mut kept: usize = 0;
     let mut long = false;
     let mut turns = u64::MAX;

@@ -15,7 +15,7 @@ pub struct Args {
 }
 
 // The answer of a line, or `error` where it isn't a request.
-pub fn answer(line: &[u8], out: &mut [u8], at: usize) -> usize {
+pub(crate) fn answer(line: &[u8], out: &mut [u8], at: usize) -> usize {
     let k = request_of(text::word(line, 0));
     let shape = text::word(
         b"842 8 4 2 2 2 4 48 428 4P P 8P  8P 8P 88 88 48 4 N 88888N 4PN",
