@@ -16,14 +16,13 @@ use Rattle.codec.specs.Motion as motion
 use Rattle.codec.specs.Replies.{protocolChecked, setProtocol, versionRequest, isVersion, versionAnswer, pingAnswer}
 use Rattle.codec.specs.Status as status
 use Rattle.codec.specs.Values.{readPayload, writePayload, encodedValue, readValue, kindIn, rawOf}
-use Rattle.codec.specs.declared.model.ModelLimits.{ModelLimits}
-use Rattle.codec.specs.declared.model.Limits.{Limits}
 use Rattle.codec.specs.declared.motion.MitCommand.{MitCommand}
 use Rattle.codec.specs.declared.status.StatusFrame.{StatusFrame}
 use Rattle.codec_abi.specs.Packing.{payloadOf, packed, refusalIn, flag}
 use Rattle.codec_abi.specs.Numbers as abi
 use Rattle.vectors.specs.declared.fields.Reply.{Reply}
-use Rattle.vectors.specs.Numbers.{replied, byte, half, word, swapped, floatOf, bitsOf}
+use Rattle.vectors.specs.declared.motion.Named.{Named}
+use Rattle.vectors.specs.Numbers.{replied, byte, half, word, swapped, swapped4, floatOf, bitsOf}
 
 -- the payload that number i of a request stands for
 abbrev pub payload : List ℕ → ℕ → List ℕ
@@ -95,7 +94,7 @@ abbrev pub isVersionReply : List ℕ → Reply
 isVersionReply v = replied 0 (flag (isVersion (word v 0) (payload v 1)) 1) 0 0
 
 abbrev pub versionOf : ℕ → ℕ → Reply
-versionOf said version = replied (said / 2 ^ 16) said (swapped version / 2 ^ 32) 0
+versionOf said version = replied (said / 2 ^ 16) said (swapped4 version) 0
 
 abbrev pub decodeVersionReply : List ℕ → Reply
 decodeVersionReply v =
@@ -122,30 +121,36 @@ temperature v = replied 0 (bitsOf (status.temperatureOf (half v 0))) 0 0
 abbrev pub nth : List Float → ℕ → Float
 nth xs i = getD xs i nan
 
-abbrev pub limitsReply : ℕ → List Float → Reply
-limitsReply n xs =
+-- a model's limits, and the refusal of its name
+abbrev pub limitsNamed : List ℕ → Named
+limitsNamed name = record { refusal = abi.limitsRefusal (models.modelLimits name); limits = abi.limitsList (models.modelLimits name) }
+
+abbrev pub limitsReply : Named → Reply
+limitsReply found =
     record {
-      refusal = n;
-      v = bitsOf (nth xs 0) ∷ bitsOf (nth xs 1) ∷ bitsOf (nth xs 2) ∷ bitsOf (nth xs 3) ∷ bitsOf (nth xs 4) ∷ 0 ∷ 0 ∷ [];
+      refusal = found .refusal;
+      v = bitsOf (nth (found .limits) 0) ∷ bitsOf (nth (found .limits) 1) ∷ bitsOf (nth (found .limits) 2) ∷ bitsOf (nth (found .limits) 3) ∷ bitsOf (nth (found .limits) 4) ∷ 0 ∷ 0 ∷ [];
     }
 
 abbrev pub modelLimits : List ℕ → Reply
-modelLimits name = limitsReply (abi.limitsRefusal (models.modelLimits name)) (abi.limitsList (models.modelLimits name))
+modelLimits name = limitsReply (limitsNamed name)
 
 -- position, velocity, kp, kd and torque are the first five numbers
-abbrev pub commandOf : List ℕ → List Float → MitCommand
-commandOf v xs =
-    motion.mitCommand (floatAt v 0) (floatAt v 1) (floatAt v 2) (floatAt v 3) (floatAt v 4)
-    (abi.allLimits (nth xs 0) (nth xs 1) (nth xs 2) (nth xs 3) (nth xs 4))
+abbrev pub targets : List ℕ → List Float
+targets v = floatAt v 0 ∷ floatAt v 1 ∷ floatAt v 2 ∷ floatAt v 3 ∷ floatAt v 4 ∷ []
+
+abbrev pub commandOf : List Float → List Float → MitCommand
+commandOf x m =
+    motion.mitCommand (nth x 0) (nth x 1) (nth x 2) (nth x 3) (nth x 4) (abi.allLimits (nth m 0) (nth m 1) (nth m 2) (nth m 3) (nth m 4))
 
 abbrev pub commandReply : ℕ → MitCommand → Reply
 commandReply n command = replied n (command .«extra_data») (shown (command .payload)) 0
 
 abbrev pub encodeMitCommand : List ℕ → List ℕ → Reply
-encodeMitCommand v name = commandReply (abi.limitsRefusal (models.modelLimits name)) (commandOf v (abi.limitsList (models.modelLimits name)))
+encodeMitCommand v name = commandReply (limitsNamed name .refusal) (commandOf (targets v) (limitsNamed name .limits))
 
 abbrev pub frameOf : List ℕ → List Float → StatusFrame
-frameOf v xs = status.statusFrame (half v 0) (payload v 1) (abi.motionLimits (nth xs 0) (nth xs 1) (nth xs 2))
+frameOf v m = status.statusFrame (half v 0) (payload v 1) (abi.motionLimits (nth m 0) (nth m 1) (nth m 2))
 
 -- mode, device and flags, then the four values
 abbrev pub statusReply : ℕ → ℕ → List Float → Reply
@@ -159,4 +164,4 @@ abbrev pub frameReply : ℕ → StatusFrame → Reply
 frameReply n frame = statusReply n (abi.statusNumber (frame .flags)) (abi.statusList frame)
 
 abbrev pub decodeStatusFrame : List ℕ → List ℕ → Reply
-decodeStatusFrame v name = frameReply (abi.limitsRefusal (models.modelLimits name)) (frameOf v (abi.limitsList (models.modelLimits name)))
+decodeStatusFrame v name = frameReply (limitsNamed name .refusal) (frameOf v (limitsNamed name .limits))

@@ -21,13 +21,12 @@ half v i = getD v i 0 % 2 ^ 16
 abbrev pub word : List ℕ → ℕ → ℕ
 word v i = getD v i 0 % 2 ^ 32
 
--- the eight bytes of n in the other order
+-- the four low bytes of n, and the eight, in the other order
+unfoldable pub swapped4 : ℕ → ℕ
+swapped4 n = n % 256 * 2 ^ 24 + n / 2 ^ 8 % 256 * 2 ^ 16 + n / 2 ^ 16 % 256 * 2 ^ 8 + n / 2 ^ 24 % 256
+
 unfoldable pub swapped : ℕ → ℕ
-swapped n =
-    n % 256 * 2 ^ 56 + n / 2 ^ 8 % 256 * 2 ^ 48 + n / 2 ^ 16 % 256 * 2 ^ 40 + n / 2 ^ 24 % 256 * 2 ^ 32 + n / 2 ^ 32 % 256 * 2 ^ 24
-    + n / 2 ^ 40 % 256 * 2 ^ 16
-    + n / 2 ^ 48 % 256 * 2 ^ 8
-    + n / 2 ^ 56 % 256
+swapped n = swapped4 (n % 2 ^ 32) * 2 ^ 32 + swapped4 (n / 2 ^ 32)
 
 -- the float of a word, and a float's word
 abbrev pub floatOf : ℕ → Float

@@ -5,6 +5,7 @@ use crate::fields::low16;
 use crate::fields::low32;
 use crate::fields::replied;
 use crate::fields::swapped;
+use crate::fields::swapped4;
 use codec::word::signed_of;
 use codec_abi::ids;
 use codec_abi::parameters;
@@ -127,10 +128,5 @@ pub fn decode_version_reply(v: [u64; 6]) -> Reply
 {
     let mut version: u32 = 0;
     let said = replies::codec_decode_version_reply(low32(v[0]), swapped(v[1]), &mut version) as u64;
-    replied(
-        said / 0x1_0000,
-        said,
-        swapped(version as u64) / 0x1_0000_0000,
-        0,
-    )
+    replied(said / 0x1_0000, said, swapped4(version as u64), 0)
 }

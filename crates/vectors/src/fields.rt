@@ -1,10 +1,10 @@
 // A reply's numbers and their text, and the parts of a request's numbers.
 use crate::requests::width;
 ghost use mathlib.Core.Path.{_≡_};
-ghost use Prim.Native.Nat.{_%_, _^_};
+ghost use Prim.Native.Nat.{_%_, _^_, _<_};
 ghost use Rattle.text.specs.Put.{Put};
 ghost use Rattle.vectors.specs.Text.{numberText, fieldText, fieldsText, refusedText, replyText};
-ghost use Rattle.vectors.specs.Numbers.{replied, swapped};
+ghost use Rattle.vectors.specs.Numbers.{replied, swapped, swapped4};
 
 // The number of a refusal, 0 where there is none, and the numbers that an answer shows.
 pub struct Reply {
@@ -89,14 +89,17 @@ fn put_number(n: u64, letter: u8, out: &mut [u8], at: usize) -> usize
 pub fn swapped(n: u64) -> u64
     ensures { λ r. ⌜ r ≡ swapped n ⌝ }
 {
-    n % 256 * 0x100_0000_0000_0000
-        + n / 0x100 % 256 * 0x1_0000_0000_0000
-        + n / 0x1_0000 % 256 * 0x100_0000_0000
-        + n / 0x100_0000 % 256 * 0x1_0000_0000
-        + n / 0x1_0000_0000 % 256 * 0x100_0000
-        + n / 0x100_0000_0000 % 256 * 0x1_0000
-        + n / 0x1_0000_0000_0000 % 256 * 0x100
-        + n / 0x100_0000_0000_0000 % 256
+    swapped4(n % 0x1_0000_0000) * 0x1_0000_0000 + swapped4(n / 0x1_0000_0000)
+}
+
+// The four low bytes of n in the other order.
+pub fn swapped4(n: u64) -> u64
+    ensures { λ r. ⌜ (r ≡ swapped4 n) × (r < 4294967296) ⌝ }
+{
+    n % 256 * 0x100_0000
+        + n / 0x100 % 256 * 0x1_0000
+        + n / 0x1_0000 % 256 * 0x100
+        + n / 0x100_0000 % 256
 }
 
 pub fn low8(n: u64) -> u8

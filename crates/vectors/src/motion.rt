@@ -52,64 +52,101 @@ pub fn temperature(v: [u64; 6]) -> Reply
     replied(0, word_of(x), 0, 0)
 }
 
-pub fn model_limits(name: &[u8]) -> Reply
-    ensures { λ r. ⌜ r ≡ answer.modelLimits (now (name .entry)) ⌝ }
+// A model's limits and the refusal of its name.
+struct Named {
+    refusal: u64,
+    limits: [f32; 5],
+}
+
+fn limits_named(name: &[u8]) -> Named
+    ensures { λ r. ⌜ r ≡ answer.limitsNamed (now (name .entry)) ⌝ }
 {
     let mut limits = [0.0f32; 5];
     let n = values::codec_model_limits(name, &mut limits);
-    Reply {
+    Named {
         refusal: n as u64,
+        limits,
+    }
+}
+
+pub fn model_limits(name: &[u8]) -> Reply
+    ensures { λ r. ⌜ r ≡ answer.modelLimits (now (name .entry)) ⌝ }
+{
+    let found = limits_named(name);
+    let m = found.limits;
+    Reply {
+        refusal: found.refusal,
         v: [
-            word_of(limits[0]),
-            word_of(limits[1]),
-            word_of(limits[2]),
-            word_of(limits[3]),
-            word_of(limits[4]),
+            word_of(m[0]),
+            word_of(m[1]),
+            word_of(m[2]),
+            word_of(m[3]),
+            word_of(m[4]),
             0,
             0,
         ],
     }
 }
 
-// v has position, velocity, kp, kd and torque.
-pub fn encode_mit_command(v: [u64; 6], name: &[u8]) -> Reply
-    ensures { λ r. ⌜ r ≡ answer.encodeMitCommand v (now (name .entry)) ⌝ }
+// Position, velocity, kp, kd and torque.
+fn targets(v: [u64; 6]) -> [f32; 5]
+    ensures { λ r. ⌜ r ≡ answer.targets v ⌝ }
 {
-    let mut limits = [0.0f32; 5];
-    let n = values::codec_model_limits(name, &mut limits);
-    let mut bytes: u64 = 0;
-    let extra = values::codec_encode_mit_command(
+    [
         value(v[0]),
         value(v[1]),
         value(v[2]),
         value(v[3]),
         value(v[4]),
-        limits[0],
-        limits[1],
-        limits[2],
-        limits[3],
-        limits[4],
+    ]
+}
+
+pub fn encode_mit_command(v: [u64; 6], name: &[u8]) -> Reply
+    ensures { λ r. ⌜ r ≡ answer.encodeMitCommand v (now (name .entry)) ⌝ }
+{
+    let found = limits_named(name);
+    let m = found.limits;
+    let x = targets(v);
+    let mut bytes: u64 = 0;
+    let extra = values::codec_encode_mit_command(
+        x[0],
+        x[1],
+        x[2],
+        x[3],
+        x[4],
+        m[0],
+        m[1],
+        m[2],
+        m[3],
+        m[4],
         &mut bytes,
     );
-    replied(n as u64, extra as u64, swapped(bytes), 0)
+    replied(found.refusal, extra as u64, swapped(bytes), 0)
 }
 
 pub fn decode_status_frame(v: [u64; 6], name: &[u8]) -> Reply
     ensures { λ r. ⌜ r ≡ answer.decodeStatusFrame v (now (name .entry)) ⌝ }
 {
-    let mut limits = [0.0f32; 5];
-    let n = values::codec_model_limits(name, &mut limits);
+    let found = limits_named(name);
+    let m = found.limits;
     let mut x = [0.0f32; 4];
     let said = values::codec_decode_status_frame(
         low16(v[0]),
         swapped(v[1]),
-        limits[0],
-        limits[1],
-        limits[2],
+        m[0],
+        m[1],
+        m[2],
         &mut x,
-    ) as u64;
+    );
+    status(found.refusal, said as u64, x)
+}
+
+// Mode, device and flags, then the four values.
+fn status(refusal: u64, said: u64, x: [f32; 4]) -> Reply
+    ensures { λ r. ⌜ r ≡ answer.statusReply refusal said x ⌝ }
+{
     Reply {
-        refusal: n as u64,
+        refusal,
         v: [
             said,
             said / 0x100,

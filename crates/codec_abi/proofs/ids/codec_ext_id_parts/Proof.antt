@@ -1,43 +1,32 @@
+-- Right because the parts are the definition's, and are put together as it says.
 use borrow.Author.Needs.{needs}
 use Rattle.codec_abi.proofs.ids.codec_ext_id_parts.Statement.{statement}
 use Rattle.codec_abi.proofs.ids.codec_ext_id_parts.Tie as tie
-use Rattle.codec_abi.proofs.ids.codec_ext_id_parts.Reads as reads
-use Rattle.codec_abi.proofs.ids.codec_ext_id_parts.Lts as lts
-use Rattle.codec.proofs.protocol.ext_id_parts.Reads as ext-id-parts-reads
 
--- src/ids.rt:19:9
 ext-id-parts-requires : tie.Need-ext-id-parts-requires
 ext-id-parts-requires c κs = search needs
 
--- src/ids.rt:20:6
 cast-result : tie.Need-cast-result
 cast-result c = search needs
 
--- src/ids.rt:20:5
 mul-result : tie.Need-mul-result
 mul-result c = search needs
 
--- src/ids.rt:20:49
 cast-result-2 : tie.Need-cast-result-2
 cast-result-2 c = search needs
 
--- src/ids.rt:20:48
 mul-result-2 : tie.Need-mul-result-2
 mul-result-2 c = search needs
 
--- src/ids.rt:20:5
 add-result : tie.Need-add-result
 add-result c = search needs
 
--- src/ids.rt:20:88
 cast-result-3 : tie.Need-cast-result-3
 cast-result-3 c = search needs
 
--- src/ids.rt:20:5
 add-result-2 : tie.Need-add-result-2
 add-result-2 c = search needs
 
--- src/ids.rt:15:1
 returns : tie.Need-returns
 returns c = rw (c .before .before .before .ext-id-parts .ensures)
 

@@ -1,3 +1,4 @@
+-- Right because the tests name the kinds as the definition does; an I8 is read back from its byte.
 use mir.Facts.{ofZ-toZ}
 use mir.Syntax.{w8}
 use native.Mathlib.Omega.{arith}
@@ -6,43 +7,31 @@ use borrow.Author.Tests.{eq-eqb, ne-eqb}
 use borrow.Author.Needs.{needs}
 use Rattle.codec_abi.proofs.parameters.typed_value.Statement.{statement}
 use Rattle.codec_abi.proofs.parameters.typed_value.Tie as tie
-use Rattle.codec_abi.proofs.parameters.typed_value.Reads as reads
-use Rattle.codec_abi.proofs.parameters.typed_value.Lts as lts
-use Rattle.codec.proofs.word.signed_of.Reads as signed-of-reads
 
--- src/parameters.rt:98:42
 cast-signed-of : tie.Need-cast-signed-of
 cast-signed-of c = search needs
 
--- src/parameters.rt:98:35
 signed-of-requires : tie.Need-signed-of-requires
 signed-of-requires c κs = search needs
 
--- src/parameters.rt:98:9
 returns : tie.Need-returns
 returns c = rw (eq-eqb _ _ (c .before .if1 .taken), c .signed-of .ensures, ofZ-toZ {w = w8} {n = c .before .before .args .bits % 256} (record { fits = omega arith }))
 
--- src/parameters.rt:101:35
 cast-t8 : tie.Need-cast-t8
 cast-t8 c = search needs
 
--- src/parameters.rt:101:9
 returns-2 : tie.Need-returns-2
 returns-2 c = rw (ne-eqb _ _ (c .before .if1 .left), eq-eqb _ _ (c .if2 .taken))
 
--- src/parameters.rt:104:36
 cast-t10 : tie.Need-cast-t10
 cast-t10 c = search needs
 
--- src/parameters.rt:104:9
 returns-3 : tie.Need-returns-3
 returns-3 c = rw (ne-eqb _ _ (c .before .before .if1 .left), ne-eqb _ _ (c .before .if2 .left), eq-eqb _ _ (c .if3 .taken))
 
--- src/parameters.rt:107:9
 returns-4 : tie.Need-returns-4
 returns-4 c = rw (ne-eqb _ _ (c .before .before .before .if1 .left), ne-eqb _ _ (c .before .before .if2 .left), ne-eqb _ _ (c .before .if3 .left), eq-eqb _ _ (c .if4 .taken))
 
--- src/parameters.rt:94:1
 returns-5 : tie.Need-returns-5
 returns-5 c = rw (ne-eqb _ _ (c .before .before .before .if1 .left), ne-eqb _ _ (c .before .before .if2 .left), ne-eqb _ _ (c .before .if3 .left), ne-eqb _ _ (c .if4 .left))
 

@@ -1,18 +1,19 @@
+-- Right because a number below 10 is one digit, and the digits of any other are those of n / 10 and then n % 10. The measure is k.
 use native.Mathlib.Omega.{arith}
 use borrow.Author.Needs.{needs}
-use Rattle.text.proofs.Putting.{put-nil, put-then, decimal-none, decimal-last, decimal-more}
 use mathlib.Core.Path.{_∙_}
 use native.Mathlib.Nat.{mod-lt}
 use Prim.Native.Nat.{ℕ, _<_}
 use borrow.Fn.Kinds.{In}
 use borrow.Fn.PlainCycle.{Measures, is, falls, and}
+use Rattle.text.proofs.Putting.{put-nil, put-then, decimal-none, decimal-last, decimal-more}
+use Rattle.text.proofs.put.+decimal_in.{statement}
+use Rattle.text.proofs.put.+decimal_in.Tie.{close}
 use Rattle.text.proofs.put.decimal_in.Reads as decimal-in
 use Rattle.text.proofs.put.decimal_in.Kinds as decimal-in-kinds
 use Rattle.text.proofs.put.+decimal_in.Lts-decimal_in as decimal-in-lts
 use Rattle.text.proofs.put.glyph.Reads as glyph-reads
 use Rattle.text.proofs.put.put_byte.Reads as put-byte-reads
-use Rattle.text.proofs.put.+decimal_in.{statement}
-use Rattle.text.proofs.put.+decimal_in.Tie.{close}
 
 abbrev μ-decimal-in : Measures 1 decimal-in-kinds.ps ℕ
 μ-decimal-in κs a = a .1 .1 .1 .0
@@ -25,7 +26,6 @@ abbrev decimal-in-below : ℕ → In 1 decimal-in-kinds.ps
 decimal-in-below t =
     and 1 decimal-in-kinds.ps (falls 1 decimal-in-kinds.ps _<_ μ-decimal-in t) decimal-in.Pre
 
--- src/put.rt:66:9
 decimal-in-returns : (t : ℕ) → decimal-in-lts.Need-returns (
   glyph-reads.Asked,
   glyph-reads.Learnt,
@@ -36,7 +36,6 @@ decimal-in-returns : (t : ℕ) → decimal-in-lts.Need-returns (
 ) (decimal-in-at t) decimal-in.Post
 decimal-in-returns t c = rw (decimal-none _ _ (c .if1 .taken)) (put-nil _ _)
 
--- src/put.rt:69:34
 decimal-in-glyph-requires : (t : ℕ) → decimal-in-lts.Need-glyph-requires (
   glyph-reads.Asked,
   glyph-reads.Learnt,
@@ -47,7 +46,6 @@ decimal-in-glyph-requires : (t : ℕ) → decimal-in-lts.Need-glyph-requires (
 ) (decimal-in-at t) decimal-in.Post
 decimal-in-glyph-requires t c κs = search needs
 
--- src/put.rt:69:9
 decimal-in-put-byte-requires : (t : ℕ) → decimal-in-lts.Need-put-byte-requires (
   glyph-reads.Asked,
   glyph-reads.Learnt,
@@ -58,7 +56,6 @@ decimal-in-put-byte-requires : (t : ℕ) → decimal-in-lts.Need-put-byte-requir
 ) (decimal-in-at t) decimal-in.Post
 decimal-in-put-byte-requires t c κs = search needs
 
--- src/put.rt:69:9
 decimal-in-same-length : (t : ℕ) → decimal-in-lts.Need-same-length (
   glyph-reads.Asked,
   glyph-reads.Learnt,
@@ -69,7 +66,6 @@ decimal-in-same-length : (t : ℕ) → decimal-in-lts.Need-same-length (
 ) (decimal-in-at t) decimal-in.Post
 decimal-in-same-length t c = c .before .before .put-byte .ensures .same
 
--- src/put.rt:69:9
 decimal-in-returns-2 : (t : ℕ) → decimal-in-lts.Need-returns-2 (
   glyph-reads.Asked,
   glyph-reads.Learnt,
@@ -80,7 +76,6 @@ decimal-in-returns-2 : (t : ℕ) → decimal-in-lts.Need-returns-2 (
 ) (decimal-in-at t) decimal-in.Post
 decimal-in-returns-2 t c = rw (decimal-last _ _ (c .before .before .before .before .before .before .if1 .left) (c .before .before .before .before .before .if2 .taken), ← c .before .before .before .glyph .ensures) (c .before .before .put-byte .ensures)
 
--- src/put.rt:71:41
 decimal-in-sub-decimal-in : (t : ℕ) → decimal-in-lts.Need-sub-decimal-in (
   glyph-reads.Asked,
   glyph-reads.Learnt,
@@ -91,7 +86,6 @@ decimal-in-sub-decimal-in : (t : ℕ) → decimal-in-lts.Need-sub-decimal-in (
 ) (decimal-in-at t) decimal-in.Post
 decimal-in-sub-decimal-in t c = search needs
 
--- src/put.rt:71:9
 decimal-in-decimal-in-requires : (t : ℕ) → decimal-in-lts.Need-decimal-in-requires (
   glyph-reads.Asked,
   glyph-reads.Learnt,
@@ -102,7 +96,6 @@ decimal-in-decimal-in-requires : (t : ℕ) → decimal-in-lts.Need-decimal-in-re
 ) (decimal-in-at t) decimal-in.Post
 decimal-in-decimal-in-requires t c κs = (omega (arith, c .before .before .before .before .pre .0), tt)
 
--- src/put.rt:72:22
 decimal-in-glyph-requires-2 : (t : ℕ) → decimal-in-lts.Need-glyph-requires-2 (
   glyph-reads.Asked,
   glyph-reads.Learnt,
@@ -113,7 +106,6 @@ decimal-in-glyph-requires-2 : (t : ℕ) → decimal-in-lts.Need-glyph-requires-2
 ) (decimal-in-at t) decimal-in.Post
 decimal-in-glyph-requires-2 t c κs = omega (arith, mod-lt (c .before .before .before .before .before .before .before .before .args .n) {m = 10} (omega arith))
 
--- src/put.rt:72:5
 decimal-in-put-byte-requires-2 : (t : ℕ) → decimal-in-lts.Need-put-byte-requires-2 (
   glyph-reads.Asked,
   glyph-reads.Learnt,
@@ -124,7 +116,6 @@ decimal-in-put-byte-requires-2 : (t : ℕ) → decimal-in-lts.Need-put-byte-requ
 ) (decimal-in-at t) decimal-in.Post
 decimal-in-put-byte-requires-2 t c κs = search needs
 
--- src/put.rt:62:1
 decimal-in-same-length-2 : (t : ℕ) → decimal-in-lts.Need-same-length-2 (
   glyph-reads.Asked,
   glyph-reads.Learnt,
@@ -135,7 +126,6 @@ decimal-in-same-length-2 : (t : ℕ) → decimal-in-lts.Need-same-length-2 (
 ) (decimal-in-at t) decimal-in.Post
 decimal-in-same-length-2 t c = c .before .before .put-byte2 .ensures .same ∙ c .before .before .before .before .before .before .before .decimal-in .ensures .same
 
--- src/put.rt:62:1
 decimal-in-returns-3 : (t : ℕ) → decimal-in-lts.Need-returns-3 (
   glyph-reads.Asked,
   glyph-reads.Learnt,

@@ -1,18 +1,19 @@
+-- Right because the digits before the last are the last k − 1 of n / base, and the last is n % base. The measure is k.
 use native.Mathlib.Omega.{arith}
 use borrow.Author.Needs.{needs}
 use mathlib.Core.Path.{_∙_}
-use Rattle.text.proofs.Putting.{put-nil, put-then, digits-none, digits-more}
 use native.Mathlib.Nat.{mod-lt}
 use Prim.Native.Nat.{ℕ, _<_}
 use borrow.Fn.Kinds.{In}
 use borrow.Fn.PlainCycle.{Measures, is, falls, and}
+use Rattle.text.proofs.Putting.{put-nil, put-then, digits-none, digits-more}
+use Rattle.text.proofs.put.+spell.{statement}
+use Rattle.text.proofs.put.+spell.Tie.{close}
 use Rattle.text.proofs.put.spell.Reads as spell
 use Rattle.text.proofs.put.spell.Kinds as spell-kinds
 use Rattle.text.proofs.put.+spell.Lts-spell as spell-lts
 use Rattle.text.proofs.put.glyph.Reads as glyph-reads
 use Rattle.text.proofs.put.put_byte.Reads as put-byte-reads
-use Rattle.text.proofs.put.+spell.{statement}
-use Rattle.text.proofs.put.+spell.Tie.{close}
 
 abbrev μ-spell : Measures 1 spell-kinds.ps ℕ
 μ-spell κs a = a .1 .1 .1 .1 .0
@@ -23,7 +24,6 @@ spell-at t = and 1 spell-kinds.ps (is 1 spell-kinds.ps μ-spell t) spell.Pre
 abbrev spell-below : ℕ → In 1 spell-kinds.ps
 spell-below t = and 1 spell-kinds.ps (falls 1 spell-kinds.ps _<_ μ-spell t) spell.Pre
 
--- src/put.rt:56:9
 spell-returns : (t : ℕ) → spell-lts.Need-returns (
   spell-below t,
   spell.Post,
@@ -34,7 +34,6 @@ spell-returns : (t : ℕ) → spell-lts.Need-returns (
 ) (spell-at t) spell.Post
 spell-returns t c = rw (digits-none _ _ _ (c .if1 .taken)) (put-nil _ _)
 
--- src/put.rt:58:28
 spell-div-spell : (t : ℕ) → spell-lts.Need-div-spell (
   spell-below t,
   spell.Post,
@@ -45,7 +44,6 @@ spell-div-spell : (t : ℕ) → spell-lts.Need-div-spell (
 ) (spell-at t) spell.Post
 spell-div-spell t c = search needs
 
--- src/put.rt:58:44
 spell-sub-spell : (t : ℕ) → spell-lts.Need-sub-spell (
   spell-below t,
   spell.Post,
@@ -56,7 +54,6 @@ spell-sub-spell : (t : ℕ) → spell-lts.Need-sub-spell (
 ) (spell-at t) spell.Post
 spell-sub-spell t c = search needs
 
--- src/put.rt:58:9
 spell-spell-requires : (t : ℕ) → spell-lts.Need-spell-requires (
   spell-below t,
   spell.Post,
@@ -67,7 +64,6 @@ spell-spell-requires : (t : ℕ) → spell-lts.Need-spell-requires (
 ) (spell-at t) spell.Post
 spell-spell-requires t c κs = (omega (arith, c .before .before .before .pre .0), c .before .before .before .pre .1)
 
--- src/put.rt:59:28
 spell-rem-glyph : (t : ℕ) → spell-lts.Need-rem-glyph (
   spell-below t,
   spell.Post,
@@ -78,7 +74,6 @@ spell-rem-glyph : (t : ℕ) → spell-lts.Need-rem-glyph (
 ) (spell-at t) spell.Post
 spell-rem-glyph t c = search needs
 
--- src/put.rt:59:22
 spell-glyph-requires : (t : ℕ) → spell-lts.Need-glyph-requires (
   spell-below t,
   spell.Post,
@@ -89,7 +84,6 @@ spell-glyph-requires : (t : ℕ) → spell-lts.Need-glyph-requires (
 ) (spell-at t) spell.Post
 spell-glyph-requires t c κs = omega (arith, c .before .before .before .before .before .before .before .pre .1, mod-lt (c .before .before .before .before .before .before .before .args .n) {m = c .before .before .before .before .before .before .before .args .base} (omega (arith, c .before .before .before .before .before .before .before .pre .1)))
 
--- src/put.rt:59:5
 spell-put-byte-requires : (t : ℕ) → spell-lts.Need-put-byte-requires (
   spell-below t,
   spell.Post,
@@ -100,7 +94,6 @@ spell-put-byte-requires : (t : ℕ) → spell-lts.Need-put-byte-requires (
 ) (spell-at t) spell.Post
 spell-put-byte-requires t c κs = search needs
 
--- src/put.rt:51:1
 spell-same-length : (t : ℕ) → spell-lts.Need-same-length (
   spell-below t,
   spell.Post,
@@ -111,7 +104,6 @@ spell-same-length : (t : ℕ) → spell-lts.Need-same-length (
 ) (spell-at t) spell.Post
 spell-same-length t c = c .before .before .put-byte .ensures .same ∙ c .before .before .before .before .before .before .before .spell .ensures .same
 
--- src/put.rt:51:1
 spell-returns-2 : (t : ℕ) → spell-lts.Need-returns-2 (
   spell-below t,
   spell.Post,

@@ -1,34 +1,26 @@
-use native.Mathlib.Omega.{arith}
-use Rattle.text.specs.Put.{glyphOf}
+-- Right because the test is the definition's.
 use borrow.Author.Tests.{lt-ltb, le-ltb}
 use borrow.Author.Needs.{needs}
+use Rattle.text.specs.Put.{glyphOf}
 use Rattle.text.proofs.put.glyph.Statement.{statement}
 use Rattle.text.proofs.put.glyph.Tie as tie
-use Rattle.text.proofs.put.glyph.Reads as reads
-use Rattle.text.proofs.put.glyph.Lts as lts
 
--- src/put.rt:80:21
 cast-result : tie.Need-cast-result
 cast-result c = search needs
 
--- src/put.rt:80:16
 add-result : tie.Need-add-result
 add-result c = search needs
 
--- src/put.rt:80:9
 returns : tie.Need-returns
 unfolding glyphOf
 returns c = rw (lt-ltb _ _ (c .if1 .taken))
 
--- src/put.rt:82:10
 cast-result-2 : tie.Need-cast-result-2
 cast-result-2 c = search needs
 
--- src/put.rt:82:5
 add-result-2 : tie.Need-add-result-2
 add-result-2 c = search needs
 
--- src/put.rt:75:1
 returns-2 : tie.Need-returns-2
 unfolding glyphOf
 returns-2 c = rw (le-ltb _ _ (c .if1 .left))

@@ -1,17 +1,15 @@
+-- Right because the bytes put are those of s that the loop has passed. The measure is what is left of s.
 use native.Mathlib.Omega.{arith}
 use borrow.Author.Needs.{needs}
+use lib.Seq.{take-suc, take-length}
+use lib.ListN.{length, take}
+use native.Mathlib.Numerals.{add-one}
+use mathlib.Core.Path.{_≡_}
+use Prim.Native.Nat.{_-_, _≤_}
 use Rattle.text.proofs.Putting.{put-nil, put-then}
 use Rattle.text.specs.Put.{Put}
-use lib.Seq.{take-suc, take-length, take-all}
-use lib.ListN.{length, take, getD}
-use native.Mathlib.Numerals.{add-one}
-use mathlib.Core.Path.{_≡_, sym, _∙_}
-use Prim.Native.Nat.{ℕ, _+_, _-_, _≤_, _<_}
 use Rattle.text.proofs.put.put_bytes.Statement.{statement}
 use Rattle.text.proofs.put.put_bytes.Tie as tie
-use Rattle.text.proofs.put.put_bytes.Reads as reads
-use Rattle.text.proofs.put.put_bytes.Lts as lts
-use Rattle.text.proofs.put.put_byte.Reads as put-byte-reads
 
 abbrev Inv-loop : tie.InvT-loop
 Inv-loop out₀ at s p₀ i₀ out p i = (i ≤ length s) × Put out₀ at (take i s) out p
@@ -19,35 +17,27 @@ Inv-loop out₀ at s p₀ i₀ out p i = (i ≤ length s) × Put out₀ at (take
 abbrev μ-loop : tie.MeasureT-loop
 μ-loop out₀ at s p₀ i₀ out p i = length s - i
 
--- src/put.rt:23:5
 loop-holds : tie.Need-loop-holds Inv-loop μ-loop
 loop-holds c = (omega arith, put-nil _ _)
 
--- src/put.rt:24:30
 shared-slice-read-put-byte : tie.Need-shared-slice-read-put-byte Inv-loop μ-loop
 shared-slice-read-put-byte c = search needs
 
--- src/put.rt:24:9
 put-byte-requires : tie.Need-put-byte-requires Inv-loop μ-loop
 put-byte-requires c κs = search needs
 
--- src/put.rt:25:9
 add-i : tie.Need-add-i Inv-loop μ-loop
 add-i c = search needs
 
--- src/put.rt:23:5
 loop-less : tie.Need-loop-less Inv-loop μ-loop
 loop-less c = search needs
 
--- src/put.rt:23:5
 loop-again : tie.Need-loop-again Inv-loop μ-loop
 loop-again c = (omega arith, rw (add-one, take-suc (c .before .before .before .before .before .before .before .before .before .args .s .now) (c .before .before .before .before .before .before .loop .i) 0 (omega arith)) (put-then (c .before .before .before .before .before .before .loop .inv .1) (c .before .before .put-byte .ensures)))
 
--- src/put.rt:18:1
 same-length : tie.Need-same-length Inv-loop μ-loop
 same-length c = c .before .loop .inv .1 .same
 
--- src/put.rt:18:1
 returns : tie.Need-returns Inv-loop μ-loop
 returns c = let e : (c .before .loop .i) ≡ length (c .before .before .before .before .args .s .now) = omega arith in rw (e, take-length) at (c .before .loop .inv .1)
 

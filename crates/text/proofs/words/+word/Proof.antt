@@ -1,23 +1,20 @@
-use Prim.Native.Nat.{_+_}
-use Rattle.text.specs.Words.{wordAt}
-use Prim.Native.Nat.{_-_}
+-- Right because the first space ends word 0, and word k of the line is word k − 1 of what follows it. The measure is k.
+use Prim.Native.Nat.{_+_, _-_, ℕ, _<_}
 use mathlib.Core.List.{List}
-use mathlib.Core.Path.{ap}
-use Rattle.text.proofs.Reading.{to-end}
+use mathlib.Core.Path.{ap, sym, _∙_}
 use lib.Seq.{length-take-le}
-use mathlib.Core.Path.{sym, _∙_}
 use native.Mathlib.Omega.{arith}
 use borrow.Author.Needs.{needs}
-use Rattle.text.proofs.Reading.{word-first, word-next, word-past}
-use Prim.Native.Nat.{ℕ, _<_}
 use borrow.Fn.Kinds.{In}
 use borrow.Fn.PlainCycle.{Measures, is, falls, and}
+use Rattle.text.specs.Words.{wordAt}
+use Rattle.text.proofs.Reading.{to-end, word-first, word-next, word-past}
+use Rattle.text.proofs.words.+word.{statement}
+use Rattle.text.proofs.words.+word.Tie.{close}
 use Rattle.text.proofs.words.word.Reads as word
 use Rattle.text.proofs.words.word.Kinds as word-kinds
 use Rattle.text.proofs.words.+word.Lts-word as word-lts
 use Rattle.bytes.proofs.scan.find.Reads as find-reads
-use Rattle.text.proofs.words.+word.{statement}
-use Rattle.text.proofs.words.+word.Tie.{close}
 
 abbrev μ-word : Measures 1 word-kinds.ps ℕ
 μ-word κs a = a .1 .0
@@ -28,7 +25,6 @@ word-at t = and 1 word-kinds.ps (is 1 word-kinds.ps μ-word t) word.Pre
 abbrev word-below : ℕ → In 1 word-kinds.ps
 word-below t = and 1 word-kinds.ps (falls 1 word-kinds.ps _<_ μ-word t) word.Pre
 
--- src/words.rt:27:9
 word-find-requires : (t : ℕ) → word-lts.Need-find-requires (
   find-reads.Asked,
   find-reads.Learnt,
@@ -37,7 +33,6 @@ word-find-requires : (t : ℕ) → word-lts.Need-find-requires (
 ) (word-at t) word.Post
 word-find-requires t c κs = search needs
 
--- src/words.rt:29:9
 word-slice-aggregate-result : (t : ℕ) → word-lts.Need-slice-aggregate-result (
   find-reads.Asked,
   find-reads.Learnt,
@@ -46,7 +41,6 @@ word-slice-aggregate-result : (t : ℕ) → word-lts.Need-slice-aggregate-result
 ) (word-at t) word.Post
 word-slice-aggregate-result t c = sym (length-take-le _ _ (c .before .before .find .ensures .1))
 
--- src/words.rt:29:9
 word-returns : (t : ℕ) → word-lts.Need-returns (
   find-reads.Asked,
   find-reads.Learnt,
@@ -55,7 +49,6 @@ word-returns : (t : ℕ) → word-lts.Need-returns (
 ) (word-at t) word.Post
 word-returns t c = word-first (c .before .before .before .before .args .s .now) (c .before .before .before .before .args .k) (c .before .before .find .result) (c .before .if1 .taken) (c .before .before .find .ensures .0)
 
--- src/words.rt:32:24
 word-add-word : (t : ℕ) → word-lts.Need-add-word (
   find-reads.Asked,
   find-reads.Learnt,
@@ -64,7 +57,6 @@ word-add-word : (t : ℕ) → word-lts.Need-add-word (
 ) (word-at t) word.Post
 word-add-word t c = search needs
 
--- src/words.rt:32:21
 word-sub-word : (t : ℕ) → word-lts.Need-sub-word (
   find-reads.Asked,
   find-reads.Learnt,
@@ -73,7 +65,6 @@ word-sub-word : (t : ℕ) → word-lts.Need-sub-word (
 ) (word-at t) word.Post
 word-sub-word t c = search needs
 
--- src/words.rt:32:21
 word-part-word-start : (t : ℕ) → word-lts.Need-part-word-start (
   find-reads.Asked,
   find-reads.Learnt,
@@ -82,7 +73,6 @@ word-part-word-start : (t : ℕ) → word-lts.Need-part-word-start (
 ) (word-at t) word.Post
 word-part-word-start t c = search needs
 
--- src/words.rt:32:21
 word-part-word-end : (t : ℕ) → word-lts.Need-part-word-end (
   find-reads.Asked,
   find-reads.Learnt,
@@ -91,7 +81,6 @@ word-part-word-end : (t : ℕ) → word-lts.Need-part-word-end (
 ) (word-at t) word.Post
 word-part-word-end t c = search needs
 
--- src/words.rt:32:34
 word-sub-word-2 : (t : ℕ) → word-lts.Need-sub-word-2 (
   find-reads.Asked,
   find-reads.Learnt,
@@ -100,7 +89,6 @@ word-sub-word-2 : (t : ℕ) → word-lts.Need-sub-word-2 (
 ) (word-at t) word.Post
 word-sub-word-2 t c = search needs
 
--- src/words.rt:32:9
 word-word-requires : (t : ℕ) → word-lts.Need-word-requires (
   find-reads.Asked,
   find-reads.Learnt,
@@ -109,7 +97,6 @@ word-word-requires : (t : ℕ) → word-lts.Need-word-requires (
 ) (word-at t) word.Post
 word-word-requires t c κs = (omega (arith, c .before .before .before .before .before .pre .0), tt)
 
--- src/words.rt:32:9
 word-returns-2 : (t : ℕ) → word-lts.Need-returns-2 (
   find-reads.Asked,
   find-reads.Learnt,
@@ -118,7 +105,6 @@ word-returns-2 : (t : ℕ) → word-lts.Need-returns-2 (
 ) (word-at t) word.Post
 word-returns-2 t c = c .word .ensures ∙ ap (λ (l : List ℕ). wordAt l (c .before .before .before .before .before .before .args .k - 1)) (to-end (c .before .before .before .before .find .result + 1) (c .before .before .before .before .before .before .args .s .now)) ∙ word-next (c .before .before .before .before .before .before .args .s .now) (c .before .before .before .before .before .before .args .k) (c .before .before .before .before .find .result) (c .before .before .before .if1 .left) (c .before .before .before .before .find .ensures .0)
 
--- src/words.rt:34:5
 word-sub-result : (t : ℕ) → word-lts.Need-sub-result (
   find-reads.Asked,
   find-reads.Learnt,
@@ -127,7 +113,6 @@ word-sub-result : (t : ℕ) → word-lts.Need-sub-result (
 ) (word-at t) word.Post
 word-sub-result t c = search needs
 
--- src/words.rt:34:5
 word-part-result-start : (t : ℕ) → word-lts.Need-part-result-start (
   find-reads.Asked,
   find-reads.Learnt,
@@ -136,7 +121,6 @@ word-part-result-start : (t : ℕ) → word-lts.Need-part-result-start (
 ) (word-at t) word.Post
 word-part-result-start t c = search needs
 
--- src/words.rt:34:5
 word-part-result-end : (t : ℕ) → word-lts.Need-part-result-end (
   find-reads.Asked,
   find-reads.Learnt,
@@ -145,7 +129,6 @@ word-part-result-end : (t : ℕ) → word-lts.Need-part-result-end (
 ) (word-at t) word.Post
 word-part-result-end t c = search needs
 
--- src/words.rt:24:1
 word-returns-3 : (t : ℕ) → word-lts.Need-returns-3 (
   find-reads.Asked,
   find-reads.Learnt,

@@ -1,15 +1,14 @@
+-- Right because the words counted, with those of what is left of s, are one more than those of s. The measure is what is left.
 use native.Mathlib.Omega.{arith}
 use borrow.Author.Needs.{needs}
+use lib.ListN.{length, drop}
+use mathlib.Core.Logic.{⊎-elim}
+use mathlib.Core.Path.{_≡_}
+use Prim.Native.Nat.{_+_, _-_, _≤_}
 use Rattle.text.proofs.Reading.{words-space, words-other, words-done}
 use Rattle.text.specs.Words.{wordsIn}
-use lib.ListN.{length, drop, getD}
-use mathlib.Core.Logic.{⊎-elim}
-use mathlib.Core.Path.{_≡_, sym, _∙_}
-use Prim.Native.Nat.{ℕ, _+_, _-_, _≤_, _<_}
 use Rattle.text.proofs.words.word_count.Statement.{statement}
 use Rattle.text.proofs.words.word_count.Tie as tie
-use Rattle.text.proofs.words.word_count.Reads as reads
-use Rattle.text.proofs.words.word_count.Lts as lts
 
 abbrev Inv-loop : tie.InvT-loop
 Inv-loop s n₀ i₀ n i = (i ≤ length s) × (n ≤ i + 1) × (n + wordsIn (drop i s) ≡ wordsIn s + 1)
@@ -17,31 +16,24 @@ Inv-loop s n₀ i₀ n i = (i ≤ length s) × (n ≤ i + 1) × (n + wordsIn (dr
 abbrev μ-loop : tie.MeasureT-loop
 μ-loop s n₀ i₀ n i = length s - i
 
--- src/words.rt:13:5
 loop-holds : tie.Need-loop-holds Inv-loop μ-loop
 loop-holds c = search needs
 
--- src/words.rt:14:12
 shared-slice-read-if1 : tie.Need-shared-slice-read-if1 Inv-loop μ-loop
 shared-slice-read-if1 c = search needs
 
--- src/words.rt:15:13
 add-n : tie.Need-add-n Inv-loop μ-loop
 add-n c = search needs
 
--- src/words.rt:17:9
 add-i : tie.Need-add-i Inv-loop μ-loop
 add-i c = search needs
 
--- src/words.rt:13:5
 loop-less : tie.Need-loop-less Inv-loop μ-loop
 loop-less c = search needs
 
--- src/words.rt:13:5
 loop-again : tie.Need-loop-again Inv-loop μ-loop
 loop-again c = ⊎-elim (λ w. (omega arith, omega arith, omega (arith, words-space (c .before .before .before .before .args .s .now) (c .before .before .before .loop .i) (omega arith) (w .0 .taken)))) (λ w. (omega arith, omega arith, omega (arith, words-other (c .before .before .before .before .args .s .now) (c .before .before .before .loop .i) (omega arith) (w .0 .left)))) (c .if1 .came)
 
--- src/words.rt:8:1
 returns : tie.Need-returns Inv-loop μ-loop
 returns c = let e : (c .before .loop .i) ≡ length (c .before .before .args .s .now) = omega arith in let d : wordsIn (drop (c .before .loop .i) (c .before .before .args .s .now)) ≡ 1 = rw e (words-done (c .before .before .args .s .now)) in omega arith
 

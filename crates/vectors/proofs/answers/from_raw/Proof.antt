@@ -1,5 +1,4 @@
-use Rattle.vectors.specs.Answers.{modeOf}
-use Rattle.vectors.specs.Numbers.{replied}
+-- Right because a mode's number is below 256, and a refusal's stands from 256 on.
 use borrow.Author.Tests.{lt-ltb, le-ltb}
 use mir.Facts.{ofZ-toZ}
 use mir.Syntax.{w8}
@@ -8,55 +7,41 @@ use native.Mathlib.Omega.{arith}
 use mathlib.Core.Path.{_≡_, ap, _∙_}
 use Prim.Native.Nat.{ℕ, _-_, _%_, _^_, _≤_, _<_}
 use borrow.Author.Needs.{needs}
+use Rattle.vectors.specs.Answers.{modeOf}
+use Rattle.vectors.specs.Numbers.{replied}
 use Rattle.vectors.proofs.answers.from_raw.Statement.{statement}
 use Rattle.vectors.proofs.answers.from_raw.Tie as tie
-use Rattle.vectors.proofs.answers.from_raw.Reads as reads
-use Rattle.vectors.proofs.answers.from_raw.Lts as lts
-use Rattle.codec.proofs.word.signed_of.Reads as signed-of-reads
-use Rattle.codec_abi.proofs.parameters.codec_mode_from_raw.Reads as codec-mode-from-raw-reads
-use Rattle.vectors.proofs.fields.low8.Reads as low8-reads
-use Rattle.vectors.proofs.fields.replied.Reads as replied-reads
 
--- a mode's number is below 256, and a refusal's stands from 256 on
 small : {m : ℕ} → m < 256 → replied 0 m 0 0 ≡ modeOf m
 small h = rw (lt-ltb _ _ h)
 
 large : {m : ℕ} → 256 ≤ m → replied (m - 256) 0 0 0 ≡ modeOf m
 large h = rw (le-ltb _ _ h)
 
--- src/answers.rt:39:63
 array-read-low8 : tie.Need-array-read-low8
 array-read-low8 c = search needs
 
--- src/answers.rt:39:58
 low8-requires : tie.Need-low8-requires
 low8-requires c κs = search needs
 
--- src/answers.rt:39:48
 signed-of-requires : tie.Need-signed-of-requires
 signed-of-requires c κs = search needs
 
--- src/answers.rt:39:16
 codec-mode-from-raw-requires : tie.Need-codec-mode-from-raw-requires
 codec-mode-from-raw-requires c κs = search needs
 
--- src/answers.rt:39:16
 cast-mode : tie.Need-cast-mode
 cast-mode c = search needs
 
--- src/answers.rt:41:9
 replied-requires : tie.Need-replied-requires
 replied-requires c κs = search needs
 
--- src/answers.rt:41:9
 returns : tie.Need-returns
 returns c = c .replied .ensures ∙ small (c .before .if1 .taken) ∙ ap (λ (m : ℕ). modeOf m) (rw (c .before .before .before .signed-of .ensures, c .before .before .before .before .low8 .ensures, ofZ-toZ {w = w8} {n = getD (c .before .before .before .before .before .args .t1) 0 0 % 2 ^ 8} (record { fits = omega arith })) at (c .before .before .codec-mode-from-raw .ensures))
 
--- src/answers.rt:43:5
 replied-requires-2 : tie.Need-replied-requires-2
 replied-requires-2 c κs = search needs
 
--- src/answers.rt:36:1
 returns-2 : tie.Need-returns-2
 returns-2 c = c .replied2 .ensures ∙ large (c .before .if1 .left) ∙ ap (λ (m : ℕ). modeOf m) (rw (c .before .before .before .signed-of .ensures, c .before .before .before .before .low8 .ensures, ofZ-toZ {w = w8} {n = getD (c .before .before .before .before .before .args .t1) 0 0 % 2 ^ 8} (record { fits = omega arith })) at (c .before .before .codec-mode-from-raw .ensures))
 

@@ -1,13 +1,10 @@
+-- Ends because the bytes left to move get fewer; the buffer keeps its length.
 use lib.ListN.{length}
 use mathlib.Core.Path.{_≡_}
 use Prim.Native.Nat.{_-_}
 use borrow.Author.Needs.{needs}
 use Rattle.vectors.proofs.lines.move_down.Statement.{statement}
 use Rattle.vectors.proofs.lines.move_down.Tie as tie
-use Rattle.vectors.proofs.lines.move_down.Reads as reads
-use Rattle.vectors.proofs.lines.move_down.Lts as lts
-use Rattle.std.proofs.num.wrapping_add_usize.Reads as wrapping-add-usize-reads
-use Rattle.vectors.proofs.lines.move_byte.Reads as move-byte-reads
 
 abbrev Inv-loop : tie.InvT-loop
 Inv-loop inp₀ from count k₀ inp k = length inp ≡ length inp₀
@@ -15,35 +12,27 @@ Inv-loop inp₀ from count k₀ inp k = length inp ≡ length inp₀
 abbrev μ-loop : tie.MeasureT-loop
 μ-loop inp₀ from count k₀ inp k = count - k
 
--- src/lines.rt:128:5
 loop-holds : tie.Need-loop-holds Inv-loop μ-loop
 loop-holds c = search needs
 
--- src/lines.rt:129:27
 wrapping-add-usize-requires : tie.Need-wrapping-add-usize-requires Inv-loop μ-loop
 wrapping-add-usize-requires c κs = search needs
 
--- src/lines.rt:129:9
 move-byte-requires : tie.Need-move-byte-requires Inv-loop μ-loop
 move-byte-requires c κs = search needs
 
--- src/lines.rt:130:9
 add-k : tie.Need-add-k Inv-loop μ-loop
 add-k c = search needs
 
--- src/lines.rt:128:5
 loop-less : tie.Need-loop-less Inv-loop μ-loop
 loop-less c = search needs
 
--- src/lines.rt:128:5
 loop-again : tie.Need-loop-again Inv-loop μ-loop
 loop-again c = search needs
 
--- src/lines.rt:126:1
 same-length : tie.Need-same-length Inv-loop μ-loop
 same-length c = search needs
 
--- src/lines.rt:126:1
 returns : tie.Need-returns Inv-loop μ-loop
 returns c = search needs
 

@@ -1,3 +1,4 @@
+-- Ends because each line end lies past the one before it; the buffer of answers keeps its length.
 use native.Mathlib.Omega.{arith}
 use lib.ListN.{length}
 use mathlib.Core.Path.{_≡_}
@@ -5,13 +6,6 @@ use Prim.Native.Nat.{_-_}
 use borrow.Author.Needs.{needs}
 use Rattle.vectors.proofs.lines.whole_lines.Statement.{statement}
 use Rattle.vectors.proofs.lines.whole_lines.Tie as tie
-use Rattle.vectors.proofs.lines.whole_lines.Reads as reads
-use Rattle.vectors.proofs.lines.whole_lines.Lts as lts
-use Rattle.vectors.proofs.lines.flush.Reads as flush-reads
-use Rattle.vectors.proofs.lines.keep.Reads as keep-reads
-use Rattle.vectors.proofs.lines.line_end.Reads as line-end-reads
-use Rattle.vectors.proofs.lines.on_part.Reads as on-part-reads
-use Rattle.vectors.proofs.lines.with_room.Reads as with-room-reads
 
 abbrev Inv-loop : tie.InvT-loop
 Inv-loop inp n was-long out₀ long₀ from₀ at₀ end₀ out long from at end = length out ≡ length out₀
@@ -19,55 +13,42 @@ Inv-loop inp n was-long out₀ long₀ from₀ at₀ end₀ out long from at end
 abbrev μ-loop : tie.MeasureT-loop
 μ-loop inp n was-long out₀ long₀ from₀ at₀ end₀ out long from at end = n - end
 
--- src/lines.rt:50:9
 line-end-requires : tie.Need-line-end-requires Inv-loop μ-loop
 line-end-requires c κs = search needs
 
--- src/lines.rt:51:5
 loop-holds : tie.Need-loop-holds Inv-loop μ-loop
 loop-holds c = search needs
 
--- src/lines.rt:52:9
 with-room-requires : tie.Need-with-room-requires Inv-loop μ-loop
 with-room-requires c κs = search needs
 
--- src/lines.rt:53:9
 on-part-requires : tie.Need-on-part-requires Inv-loop μ-loop
 on-part-requires c κs = search needs
 
--- src/lines.rt:55:16
 add-from : tie.Need-add-from Inv-loop μ-loop
 add-from c = search needs
 
--- src/lines.rt:56:9
 line-end-requires-2 : tie.Need-line-end-requires-2 Inv-loop μ-loop
 line-end-requires-2 c κs = search needs
 
--- src/lines.rt:51:5
 loop-less : tie.Need-loop-less Inv-loop μ-loop
 loop-less c = omega (arith, c .line-end2 .ensures (omega arith))
 
--- src/lines.rt:51:5
 loop-again : tie.Need-loop-again Inv-loop μ-loop
 loop-again c = search needs
 
--- src/lines.rt:58:5
 flush-requires : tie.Need-flush-requires Inv-loop μ-loop
 flush-requires c κs = search needs
 
--- src/lines.rt:59:5
 keep-requires : tie.Need-keep-requires Inv-loop μ-loop
 keep-requires c κs = search needs
 
--- src/lines.rt:46:1
 same-length : tie.Need-same-length Inv-loop μ-loop
 same-length c = search needs
 
--- src/lines.rt:46:1
 same-length-2 : tie.Need-same-length-2 Inv-loop μ-loop
 same-length-2 c = search needs
 
--- src/lines.rt:46:1
 returns : tie.Need-returns Inv-loop μ-loop
 returns c = search needs
 

@@ -1,34 +1,24 @@
+-- Right because the tests are the definition's, in its order.
 use borrow.Author.Tests.{lt-ltb, le-ltb}
 use borrow.Author.Needs.{needs}
 use Rattle.vectors.proofs.replies.reply.Statement.{statement}
 use Rattle.vectors.proofs.replies.reply.Tie as tie
-use Rattle.vectors.proofs.replies.reply.Reads as reads
-use Rattle.vectors.proofs.replies.reply.Lts as lts
-use Rattle.vectors.proofs.replies.frame_reply.Reads as frame-reply-reads
-use Rattle.vectors.proofs.replies.parameter_reply.Reads as parameter-reply-reads
-use Rattle.vectors.proofs.replies.value_reply.Reads as value-reply-reads
 
--- src/replies.rt:12:9
 parameter-reply-requires : tie.Need-parameter-reply-requires
 parameter-reply-requires c κs = search needs
 
--- src/replies.rt:12:9
 returns : tie.Need-returns
 returns c = rw (lt-ltb _ _ (c .before .if1 .taken)) (c .parameter-reply .ensures)
 
--- src/replies.rt:15:9
 frame-reply-requires : tie.Need-frame-reply-requires
 frame-reply-requires c κs = search needs
 
--- src/replies.rt:15:9
 returns-2 : tie.Need-returns-2
 returns-2 c = rw (le-ltb _ _ (c .before .before .if1 .left), lt-ltb _ _ (c .before .if2 .taken)) (c .frame-reply .ensures)
 
--- src/replies.rt:17:5
 value-reply-requires : tie.Need-value-reply-requires
 value-reply-requires c κs = search needs
 
--- src/replies.rt:8:1
 returns-3 : tie.Need-returns-3
 returns-3 c = rw (le-ltb _ _ (c .before .before .if1 .left), le-ltb _ _ (c .before .if2 .left)) (c .value-reply .ensures)
 

@@ -1,80 +1,60 @@
-use Rattle.vectors.specs.Replies.{valueReply}
+-- Right because each arm is the definition's.
 use borrow.Author.Tests.{ne-eqb}
 use borrow.Author.Needs.{needs}
+use Rattle.vectors.specs.Replies.{valueReply}
 use Rattle.vectors.proofs.replies.value_reply.Statement.{statement}
 use Rattle.vectors.proofs.replies.value_reply.Tie as tie
-use Rattle.vectors.proofs.replies.value_reply.Reads as reads
-use Rattle.vectors.proofs.replies.value_reply.Lts as lts
-use Rattle.vectors.proofs.motion.decode_status_frame.Reads as decode-status-frame-reads
-use Rattle.vectors.proofs.motion.encode_mit_command.Reads as encode-mit-command-reads
-use Rattle.vectors.proofs.motion.gain_raw.Reads as gain-raw-reads
-use Rattle.vectors.proofs.motion.model_limits.Reads as model-limits-reads
-use Rattle.vectors.proofs.motion.motion_raw.Reads as motion-raw-reads
-use Rattle.vectors.proofs.motion.status_value.Reads as status-value-reads
-use Rattle.vectors.proofs.motion.temperature.Reads as temperature-reads
 
--- src/replies.rt:56:15
 motion-raw-requires : tie.Need-motion-raw-requires
 motion-raw-requires c κs = search needs
 
--- src/replies.rt:57:15
 gain-raw-requires : tie.Need-gain-raw-requires
 gain-raw-requires c κs = search needs
 
--- src/replies.rt:58:15
 status-value-requires : tie.Need-status-value-requires
 status-value-requires c κs = search needs
 
--- src/replies.rt:59:15
 temperature-requires : tie.Need-temperature-requires
 temperature-requires c κs = search needs
 
--- src/replies.rt:60:15
 model-limits-requires : tie.Need-model-limits-requires
 model-limits-requires c κs = search needs
 
--- src/replies.rt:61:15
 encode-mit-command-requires : tie.Need-encode-mit-command-requires
 encode-mit-command-requires c κs = search needs
 
--- src/replies.rt:62:14
 decode-status-frame-requires : tie.Need-decode-status-frame-requires
 decode-status-frame-requires c κs = search needs
 
--- src/replies.rt:52:1
 returns : tie.Need-returns
 unfolding valueReply
 returns c = rw (c .before .match .keys1) (c .motion-raw .ensures)
 
--- src/replies.rt:52:1
 returns-2 : tie.Need-returns-2
 unfolding valueReply
 returns-2 c = rw (c .before .match .keys2) (c .gain-raw .ensures)
 
--- src/replies.rt:52:1
 returns-3 : tie.Need-returns-3
 unfolding valueReply
 returns-3 c = rw (c .before .match .keys3) (c .status-value .ensures)
 
--- src/replies.rt:52:1
 returns-4 : tie.Need-returns-4
 unfolding valueReply
 returns-4 c = rw (c .before .match .keys4) (c .temperature .ensures)
 
--- src/replies.rt:52:1
 returns-5 : tie.Need-returns-5
 unfolding valueReply
 returns-5 c = rw (c .before .match .keys5) (c .model-limits .ensures)
 
--- src/replies.rt:52:1
 returns-6 : tie.Need-returns-6
 unfolding valueReply
 returns-6 c = rw (c .before .match .keys6) (c .encode-mit-command .ensures)
 
--- src/replies.rt:52:1
 returns-7 : tie.Need-returns-7
 unfolding valueReply
-returns-7 c = rw (ne-eqb _ _ (c .before .match .rest .0 .0 .0 .0 .0 .1), ne-eqb _ _ (c .before .match .rest .0 .0 .0 .0 .1), ne-eqb _ _ (c .before .match .rest .0 .0 .0 .1), ne-eqb _ _ (c .before .match .rest .0 .0 .1), ne-eqb _ _ (c .before .match .rest .0 .1), ne-eqb _ _ (c .before .match .rest .1)) (c .decode-status-frame .ensures)
+returns-7 c =
+    let p1 = c .before in
+    rw (ne-eqb _ _ (p1 .match .rest .0 .0 .0 .0 .0 .1), ne-eqb _ _ (p1 .match .rest .0 .0 .0 .0 .1), ne-eqb _ _ (p1 .match .rest .0 .0 .0 .1), ne-eqb _ _ (p1 .match .rest .0 .0 .1), ne-eqb _ _ (p1 .match .rest .0 .1), ne-eqb _ _ (p1 .match .rest .1)) (c .decode-status-frame .ensures)
 
 pub value-reply-spec : {M : Type 1} → statement M
 value-reply-spec =

@@ -1,22 +1,17 @@
+-- Right because the arms are the definition's.
 use borrow.Author.Tests.{ne-eqb}
 use Rattle.vectors.proofs.requests.width.Statement.{statement}
 use Rattle.vectors.proofs.requests.width.Tie as tie
-use Rattle.vectors.proofs.requests.width.Reads as reads
-use Rattle.vectors.proofs.requests.width.Lts as lts
 
--- src/requests.rt:90:1
 returns : tie.Need-returns
 returns c = rw (c .match .keys1)
 
--- src/requests.rt:90:1
 returns-2 : tie.Need-returns-2
 returns-2 c = rw (c .match .keys2)
 
--- src/requests.rt:90:1
 returns-3 : tie.Need-returns-3
 returns-3 c = rw (c .match .keys3)
 
--- src/requests.rt:90:1
 returns-4 : tie.Need-returns-4
 returns-4 c = rw (ne-eqb _ _ (c .match .rest .0 .0 .1), ne-eqb _ _ (c .match .rest .0 .1), ne-eqb _ _ (c .match .rest .1))
 
