@@ -25,22 +25,47 @@ sub-result c = search needs
 
 returns-4 : tie.Need-returns-4
 unfolding digitOf
-returns-4 c = rw (← c .before .before .before .before .wide .ensures, le-ltb _ _ (c .before .before .before .if1 .left), le-ltb _ _ (c .before .before .if2 .left), le-ltb _ _ (c .before .if3 .left), lt-ltb _ _ (c .if4 .taken))
+returns-4 c =
+    let p1 = c .before in
+    let p2 = p1 .before in
+    let p3 = p2 .before in
+    let p4 = p3 .before in
+    rw (← p4 .wide .ensures, le-ltb _ _ (p3 .if1 .left), le-ltb _ _ (p2 .if2 .left), le-ltb _ _ (p1 .if3 .left), lt-ltb _ _ (c .if4 .taken))
 
 returns-5 : tie.Need-returns-5
 unfolding digitOf
-returns-5 c = rw (← c .before .before .before .before .before .wide .ensures, le-ltb _ _ (c .before .before .before .before .if1 .left), le-ltb _ _ (c .before .before .before .if2 .left), le-ltb _ _ (c .before .before .if3 .left), le-ltb _ _ (c .before .if4 .left), lt-ltb _ _ (c .if5 .taken))
+returns-5 c =
+    let p1 = c .before in
+    let p2 = p1 .before in
+    let p3 = p2 .before in
+    let p4 = p3 .before in
+    let p5 = p4 .before in
+    rw (← p5 .wide .ensures, le-ltb _ _ (p4 .if1 .left), le-ltb _ _ (p3 .if2 .left), le-ltb _ _ (p2 .if3 .left), le-ltb _ _ (p1 .if4 .left), lt-ltb _ _ (c .if5 .taken))
 
 sub-result-2 : tie.Need-sub-result-2
 sub-result-2 c = search needs
 
 returns-6 : tie.Need-returns-6
 unfolding digitOf
-returns-6 c = rw (← c .before .before .before .before .before .before .wide .ensures, le-ltb _ _ (c .before .before .before .before .before .if1 .left), le-ltb _ _ (c .before .before .before .before .if2 .left), le-ltb _ _ (c .before .before .before .if3 .left), le-ltb _ _ (c .before .before .if4 .left), le-ltb _ _ (c .before .if5 .left), lt-ltb _ _ (c .if6 .taken))
+returns-6 c =
+    let p1 = c .before in
+    let p2 = p1 .before in
+    let p3 = p2 .before in
+    let p4 = p3 .before in
+    let p5 = p4 .before in
+    let p6 = p5 .before in
+    rw (← p6 .wide .ensures, le-ltb _ _ (p5 .if1 .left), le-ltb _ _ (p4 .if2 .left), le-ltb _ _ (p3 .if3 .left), le-ltb _ _ (p2 .if4 .left), le-ltb _ _ (p1 .if5 .left), lt-ltb _ _ (c .if6 .taken))
 
 returns-7 : tie.Need-returns-7
 unfolding digitOf
-returns-7 c = rw (← c .before .before .before .before .before .before .wide .ensures, le-ltb _ _ (c .before .before .before .before .before .if1 .left), le-ltb _ _ (c .before .before .before .before .if2 .left), le-ltb _ _ (c .before .before .before .if3 .left), le-ltb _ _ (c .before .before .if4 .left), le-ltb _ _ (c .before .if5 .left), le-ltb _ _ (c .if6 .left))
+returns-7 c =
+    let p1 = c .before in
+    let p2 = p1 .before in
+    let p3 = p2 .before in
+    let p4 = p3 .before in
+    let p5 = p4 .before in
+    let p6 = p5 .before in
+    rw (← p6 .wide .ensures, le-ltb _ _ (p5 .if1 .left), le-ltb _ _ (p4 .if2 .left), le-ltb _ _ (p3 .if3 .left), le-ltb _ _ (p2 .if4 .left), le-ltb _ _ (p1 .if5 .left), le-ltb _ _ (c .if6 .left))
 
 pub digit-spec : {M : Type 1} → statement M
 digit-spec =

@@ -28,7 +28,11 @@ digit-requires : tie.Need-digit-requires Inv-loop μ-loop
 digit-requires c κs = search needs
 
 returns-2 : tie.Need-returns-2 Inv-loop μ-loop
-returns-2 c = sym (c .before .before .before .before .loop .inv .1 ∙ read-stop (c .before .before .before .before .before .before .before .args .base) (c .before .before .before .before .loop .n) (c .before .before .before .before .before .before .before .args .w .now) (c .before .before .before .before .loop .i) (omega arith) (omega (arith, c .before .digit .ensures)))
+returns-2 c =
+    let p1 = c .before in
+    let p2 = p1 .before .before .before in
+    let p3 = p2 .before .before .before in
+    sym (p2 .loop .inv .1 ∙ read-stop (p3 .args .base) (p2 .loop .n) (p3 .args .w .now) (p2 .loop .i) (omega arith) (omega (arith, p1 .digit .ensures)))
 
 sub-if3 : tie.Need-sub-if3 Inv-loop μ-loop
 sub-if3 c = search needs
@@ -37,13 +41,25 @@ div-if3 : tie.Need-div-if3 Inv-loop μ-loop
 div-if3 c = search needs
 
 returns-3 : tie.Need-returns-3 Inv-loop μ-loop
-returns-3 c = sym (c .before .before .before .before .before .loop .inv .1 ∙ read-over (c .before .before .before .before .before .before .before .before .args .base) (c .before .before .before .before .before .loop .n) (c .before .before .before .before .before .before .before .before .args .w .now) (c .before .before .before .before .before .loop .i) (omega arith) (omega (arith, c .before .before .digit .ensures)) (omega (arith, c .before .before .digit .ensures, over (c .before .before .before .before .before .before .before .before .args .base) (c .before .before .digit .result) (c .before .before .before .before .before .loop .n) (omega arith) (omega arith) (omega arith) (c .if3 .taken))))
+returns-3 c =
+    let p1 = c .before .before in
+    let p2 = p1 .before .before .before in
+    let p3 = p2 .before .before .before in
+    sym (p2 .loop .inv .1 ∙ read-over (p3 .args .base) (p2 .loop .n) (p3 .args .w .now) (p2 .loop .i) (omega arith) (omega (arith, p1 .digit .ensures)) (omega (arith, p1 .digit .ensures, over (p3 .args .base) (p1 .digit .result) (p2 .loop .n) (omega arith) (omega arith) (omega arith) (c .if3 .taken))))
 
 mul-n : tie.Need-mul-n Inv-loop μ-loop
-mul-n c = record { fits = omega (arith, within (c .before .before .before .before .before .before .before .before .args .base) (c .before .before .digit .result) (c .before .before .before .before .before .loop .n) (omega arith) (omega arith) (omega arith) (c .if3 .left)) }
+mul-n c =
+    let p1 = c .before .before in
+    let p2 = p1 .before .before .before in
+    let p3 = p2 .before .before .before in
+    record { fits = omega (arith, within (p3 .args .base) (p1 .digit .result) (p2 .loop .n) (omega arith) (omega arith) (omega arith) (c .if3 .left)) }
 
 add-n : tie.Need-add-n Inv-loop μ-loop
-add-n c = record { fits = omega (arith, within (c .before .before .before .before .before .before .before .before .args .base) (c .before .before .digit .result) (c .before .before .before .before .before .loop .n) (omega arith) (omega arith) (omega arith) (c .if3 .left)) }
+add-n c =
+    let p1 = c .before .before in
+    let p2 = p1 .before .before .before in
+    let p3 = p2 .before .before .before in
+    record { fits = omega (arith, within (p3 .args .base) (p1 .digit .result) (p2 .loop .n) (omega arith) (omega arith) (omega arith) (c .if3 .left)) }
 
 add-i : tie.Need-add-i Inv-loop μ-loop
 add-i c = search needs
@@ -52,15 +68,21 @@ loop-less : tie.Need-loop-less Inv-loop μ-loop
 loop-less c = search needs
 
 loop-again : tie.Need-loop-again Inv-loop μ-loop
-loop-again c = (
-  omega arith,
-  c .before .before .before .before .before .loop .inv .1
-      ∙ read-on (c .before .before .before .before .before .before .before .before .args .base) (c .before .before .before .before .before .loop .n) (c .before .before .before .before .before .before .before .before .args .w .now) (c .before .before .before .before .before .loop .i) (omega arith) (omega (arith, c .before .before .digit .ensures)) (omega (arith, c .before .before .digit .ensures, within (c .before .before .before .before .before .before .before .before .args .base) (c .before .before .digit .result) (c .before .before .before .before .before .loop .n) (omega arith) (omega arith) (omega arith) (c .if3 .left)))
-      ∙ rw (← c .before .before .digit .ensures),
-)
+loop-again c =
+    let p1 = c .before .before in
+    let p2 = p1 .before .before .before in
+    let p3 = p2 .before .before .before in (
+      omega arith,
+      p2 .loop .inv .1
+          ∙ read-on (p3 .args .base) (p2 .loop .n) (p3 .args .w .now) (p2 .loop .i) (omega arith) (omega (arith, p1 .digit .ensures)) (omega (arith, p1 .digit .ensures, within (p3 .args .base) (p1 .digit .result) (p2 .loop .n) (omega arith) (omega arith) (omega arith) (c .if3 .left)))
+          ∙ rw (← p1 .digit .ensures),
+    )
 
 returns-4 : tie.Need-returns-4 Inv-loop μ-loop
-returns-4 c = let e : (c .before .loop .i) ≡ length (c .before .before .before .before .args .w .now) = omega arith in sym (c .before .loop .inv .1 ∙ rw e (read-done _ _ (c .before .before .before .before .args .w .now)))
+returns-4 c =
+    let p1 = c .before in
+    let p2 = p1 .before .before .before in
+    let e : (p1 .loop .i) ≡ length (p2 .args .w .now) = omega arith in sym (p1 .loop .inv .1 ∙ rw e (read-done _ _ (p2 .args .w .now)))
 
 pub digits-spec : {M : Type 1} → statement M
 digits-spec =

@@ -48,7 +48,12 @@ digits-requires-4 c κs = search needs
 
 returns-4 : tie.Need-returns-4
 unfolding numberOf
-returns-4 c = rw (lt-leb _ _ (c .before .before .before .before .before .before .if1 .left), eq-eqb _ _ (c .before .before .before .before .if2 .left), eq-eqb _ _ (c .before .before .if3 .left)) (c .digits4 .ensures ∙ ap (inBase 16) (to-end 2 (c .before .before .before .before .before .before .before .before .args .w .now)))
+returns-4 c =
+    let p1 = c .before .before in
+    let p2 = p1 .before .before in
+    let p3 = p2 .before .before in
+    let p4 = p3 .before .before in
+    rw (lt-leb _ _ (p3 .if1 .left), eq-eqb _ _ (p2 .if2 .left), eq-eqb _ _ (p1 .if3 .left)) (c .digits4 .ensures ∙ ap (inBase 16) (to-end 2 (p4 .args .w .now)))
 
 pub number-spec : {M : Type 1} → statement M
 number-spec =

@@ -74,7 +74,12 @@ decimal-in-returns-2 : (t : ℕ) → decimal-in-lts.Need-returns-2 (
   decimal-in-below t,
   decimal-in.Post,
 ) (decimal-in-at t) decimal-in.Post
-decimal-in-returns-2 t c = rw (decimal-last _ _ (c .before .before .before .before .before .before .if1 .left) (c .before .before .before .before .before .if2 .taken), ← c .before .before .before .glyph .ensures) (c .before .before .put-byte .ensures)
+decimal-in-returns-2 t c =
+    let p1 = c .before .before in
+    let p2 = p1 .before in
+    let p3 = p2 .before .before in
+    let p4 = p3 .before in
+    rw (decimal-last _ _ (p4 .if1 .left) (p3 .if2 .taken), ← p2 .glyph .ensures) (p1 .put-byte .ensures)
 
 decimal-in-sub-decimal-in : (t : ℕ) → decimal-in-lts.Need-sub-decimal-in (
   glyph-reads.Asked,
@@ -134,7 +139,13 @@ decimal-in-returns-3 : (t : ℕ) → decimal-in-lts.Need-returns-3 (
   decimal-in-below t,
   decimal-in.Post,
 ) (decimal-in-at t) decimal-in.Post
-decimal-in-returns-3 t c = rw (decimal-more _ _ (c .before .before .before .before .before .before .before .before .before .before .if1 .left) (c .before .before .before .before .before .before .before .before .before .if2 .left), ← c .before .before .before .glyph2 .ensures) (put-then (c .before .before .before .before .before .before .before .decimal-in .ensures) (c .before .before .put-byte2 .ensures))
+decimal-in-returns-3 t c =
+    let p1 = c .before .before in
+    let p2 = p1 .before in
+    let p3 = p2 .before .before .before .before in
+    let p4 = p3 .before .before in
+    let p5 = p4 .before in
+    rw (decimal-more _ _ (p5 .if1 .left) (p4 .if2 .left), ← p2 .glyph2 .ensures) (put-then (p3 .decimal-in .ensures) (p1 .put-byte2 .ensures))
 
 pub +decimal-in-spec : {M : Type 1} → statement M
 +decimal-in-spec = close μ-decimal-in λ t. decimal-in-lts.spec (

@@ -82,7 +82,9 @@ spell-glyph-requires : (t : ℕ) → spell-lts.Need-glyph-requires (
   put-byte-reads.Asked,
   put-byte-reads.Learnt,
 ) (spell-at t) spell.Post
-spell-glyph-requires t c κs = omega (arith, c .before .before .before .before .before .before .before .pre .1, mod-lt (c .before .before .before .before .before .before .before .args .n) {m = c .before .before .before .before .before .before .before .args .base} (omega (arith, c .before .before .before .before .before .before .before .pre .1)))
+spell-glyph-requires t c κs =
+    let p1 = c .before .before .before .before .before .before .before in
+    omega (arith, p1 .pre .1, mod-lt (p1 .args .n) {m = p1 .args .base} (omega (arith, p1 .pre .1)))
 
 spell-put-byte-requires : (t : ℕ) → spell-lts.Need-put-byte-requires (
   spell-below t,
@@ -112,7 +114,12 @@ spell-returns-2 : (t : ℕ) → spell-lts.Need-returns-2 (
   put-byte-reads.Asked,
   put-byte-reads.Learnt,
 ) (spell-at t) spell.Post
-spell-returns-2 t c = rw (digits-more _ _ _ (c .before .before .before .before .before .before .before .before .before .if1 .left), ← c .before .before .before .glyph .ensures) (put-then (c .before .before .before .before .before .before .before .spell .ensures) (c .before .before .put-byte .ensures))
+spell-returns-2 t c =
+    let p1 = c .before .before in
+    let p2 = p1 .before in
+    let p3 = p2 .before .before .before .before in
+    let p4 = p3 .before .before in
+    rw (digits-more _ _ _ (p4 .if1 .left), ← p2 .glyph .ensures) (put-then (p3 .spell .ensures) (p1 .put-byte .ensures))
 
 pub +spell-spec : {M : Type 1} → statement M
 +spell-spec = close μ-spell λ t. spell-lts.spec (

@@ -33,7 +33,11 @@ loop-less : tie.Need-loop-less Inv-loop μ-loop
 loop-less c = search needs
 
 loop-again : tie.Need-loop-again Inv-loop μ-loop
-loop-again c = (omega arith, rw (add-one, take-suc (c .before .before .before .before .before .before .before .before .before .args .s .now) (c .before .before .before .before .before .before .loop .i) 0 (omega arith)) (put-then (c .before .before .before .before .before .before .loop .inv .1) (c .before .before .put-byte .ensures)))
+loop-again c =
+    let p1 = c .before .before in
+    let p2 = p1 .before .before .before .before in
+    let p3 = p2 .before .before .before in
+    (omega arith, rw (add-one, take-suc (p3 .args .s .now) (p2 .loop .i) 0 (omega arith)) (put-then (p2 .loop .inv .1) (p1 .put-byte .ensures)))
 
 same-length : tie.Need-same-length Inv-loop μ-loop
 same-length c = c .before .loop .inv .1 .same

@@ -103,7 +103,11 @@ word-returns-2 : (t : ℕ) → word-lts.Need-returns-2 (
   word-below t,
   word.Post,
 ) (word-at t) word.Post
-word-returns-2 t c = c .word .ensures ∙ ap (λ (l : List ℕ). wordAt l (c .before .before .before .before .before .before .args .k - 1)) (to-end (c .before .before .before .before .find .result + 1) (c .before .before .before .before .before .before .args .s .now)) ∙ word-next (c .before .before .before .before .before .before .args .s .now) (c .before .before .before .before .before .before .args .k) (c .before .before .before .before .find .result) (c .before .before .before .if1 .left) (c .before .before .before .before .find .ensures .0)
+word-returns-2 t c =
+    let p1 = c .before .before .before in
+    let p2 = p1 .before in
+    let p3 = p2 .before .before in
+    c .word .ensures ∙ ap (λ (l : List ℕ). wordAt l (p3 .args .k - 1)) (to-end (p2 .find .result + 1) (p3 .args .s .now)) ∙ word-next (p3 .args .s .now) (p3 .args .k) (p2 .find .result) (p1 .if1 .left) (p2 .find .ensures .0)
 
 word-sub-result : (t : ℕ) → word-lts.Need-sub-result (
   find-reads.Asked,
@@ -135,7 +139,12 @@ word-returns-3 : (t : ℕ) → word-lts.Need-returns-3 (
   word-below t,
   word.Post,
 ) (word-at t) word.Post
-word-returns-3 t c = to-end (c .before .before .before .find .result) (c .before .before .before .before .before .args .s .now) ∙ word-past (c .before .before .before .before .before .args .s .now) (c .before .before .before .before .before .args .k) (c .before .before .before .find .result) (c .before .before .if1 .left) (c .before .before .before .find .ensures .0) (c .before .if2 .left)
+word-returns-3 t c =
+    let p1 = c .before in
+    let p2 = p1 .before in
+    let p3 = p2 .before in
+    let p4 = p3 .before .before in
+    to-end (p3 .find .result) (p4 .args .s .now) ∙ word-past (p4 .args .s .now) (p4 .args .k) (p3 .find .result) (p2 .if1 .left) (p3 .find .ensures .0) (p1 .if2 .left)
 
 pub +word-spec : {M : Type 1} → statement M
 +word-spec = close μ-word λ t. word-lts.spec (

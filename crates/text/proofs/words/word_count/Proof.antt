@@ -32,10 +32,16 @@ loop-less : tie.Need-loop-less Inv-loop μ-loop
 loop-less c = search needs
 
 loop-again : tie.Need-loop-again Inv-loop μ-loop
-loop-again c = ⊎-elim (λ w. (omega arith, omega arith, omega (arith, words-space (c .before .before .before .before .args .s .now) (c .before .before .before .loop .i) (omega arith) (w .0 .taken)))) (λ w. (omega arith, omega arith, omega (arith, words-other (c .before .before .before .before .args .s .now) (c .before .before .before .loop .i) (omega arith) (w .0 .left)))) (c .if1 .came)
+loop-again c =
+    let p1 = c .before .before .before in
+    let p2 = p1 .before in
+    ⊎-elim (λ w. (omega arith, omega arith, omega (arith, words-space (p2 .args .s .now) (p1 .loop .i) (omega arith) (w .0 .taken)))) (λ w. (omega arith, omega arith, omega (arith, words-other (p2 .args .s .now) (p1 .loop .i) (omega arith) (w .0 .left)))) (c .if1 .came)
 
 returns : tie.Need-returns Inv-loop μ-loop
-returns c = let e : (c .before .loop .i) ≡ length (c .before .before .args .s .now) = omega arith in let d : wordsIn (drop (c .before .loop .i) (c .before .before .args .s .now)) ≡ 1 = rw e (words-done (c .before .before .args .s .now)) in omega arith
+returns c =
+    let p1 = c .before in
+    let p2 = p1 .before in
+    let e : (p1 .loop .i) ≡ length (p2 .args .s .now) = omega arith in let d : wordsIn (drop (p1 .loop .i) (p2 .args .s .now)) ≡ 1 = rw e (words-done (p2 .args .s .now)) in omega arith
 
 pub word-count-spec : {M : Type 1} → statement M
 word-count-spec =

@@ -37,13 +37,25 @@ replied-requires : tie.Need-replied-requires
 replied-requires c κs = search needs
 
 returns : tie.Need-returns
-returns c = c .replied .ensures ∙ small (c .before .if1 .taken) ∙ ap (λ (m : ℕ). modeOf m) (rw (c .before .before .before .signed-of .ensures, c .before .before .before .before .low8 .ensures, ofZ-toZ {w = w8} {n = getD (c .before .before .before .before .before .args .t1) 0 0 % 2 ^ 8} (record { fits = omega arith })) at (c .before .before .codec-mode-from-raw .ensures))
+returns c =
+    let p1 = c .before in
+    let p2 = p1 .before in
+    let p3 = p2 .before in
+    let p4 = p3 .before in
+    let p5 = p4 .before in
+    c .replied .ensures ∙ small (p1 .if1 .taken) ∙ ap (λ (m : ℕ). modeOf m) (rw (p3 .signed-of .ensures, p4 .low8 .ensures, ofZ-toZ {w = w8} {n = getD (p5 .args .t1) 0 0 % 2 ^ 8} (record { fits = omega arith })) at (p2 .codec-mode-from-raw .ensures))
 
 replied-requires-2 : tie.Need-replied-requires-2
 replied-requires-2 c κs = search needs
 
 returns-2 : tie.Need-returns-2
-returns-2 c = c .replied2 .ensures ∙ large (c .before .if1 .left) ∙ ap (λ (m : ℕ). modeOf m) (rw (c .before .before .before .signed-of .ensures, c .before .before .before .before .low8 .ensures, ofZ-toZ {w = w8} {n = getD (c .before .before .before .before .before .args .t1) 0 0 % 2 ^ 8} (record { fits = omega arith })) at (c .before .before .codec-mode-from-raw .ensures))
+returns-2 c =
+    let p1 = c .before in
+    let p2 = p1 .before in
+    let p3 = p2 .before in
+    let p4 = p3 .before in
+    let p5 = p4 .before in
+    c .replied2 .ensures ∙ large (p1 .if1 .left) ∙ ap (λ (m : ℕ). modeOf m) (rw (p3 .signed-of .ensures, p4 .low8 .ensures, ofZ-toZ {w = w8} {n = getD (p5 .args .t1) 0 0 % 2 ^ 8} (record { fits = omega arith })) at (p2 .codec-mode-from-raw .ensures))
 
 pub from-raw-spec : {M : Type 1} → statement M
 from-raw-spec =

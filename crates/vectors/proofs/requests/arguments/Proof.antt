@@ -69,7 +69,13 @@ loop-less : tie.Need-loop-less Inv-loop μ-loop
 loop-less c = search needs
 
 loop-again : tie.Need-loop-again Inv-loop μ-loop
-loop-again c = (omega arith, simp length-set (c .before .before .before .before .before .before .before .loop .inv .1), read-more (c .before .before .before .before .before .before .before .before .before .before .before .before .before .args .line .now) (c .before .before .before .before .before .before .before .before .before .before .before .before .before .args .shape .now) (c .before .before .before .before .before .before .before .loop .v) (c .before .before .before .before .before .before .before .loop .i) _ (omega arith) (c .before .before .before .before .before .before .before .loop .inv .2) (ap (λ (w : List ℕ). argumentOf w (getD (c .before .before .before .before .before .before .before .before .before .before .before .before .before .args .shape .now) (c .before .before .before .before .before .before .before .loop .i) 0)) (sym (c .before .before .before .before .before .word .ensures)) ∙ sym (c .before .before .before .argument .ensures) ∙ c .before .x .given .1))
+loop-again c =
+    let p1 = c .before in
+    let p2 = p1 .before .before in
+    let p3 = p2 .before .before in
+    let p4 = p3 .before .before in
+    let p5 = p4 .before .before .before .before .before .before in
+    (omega arith, simp length-set (p4 .loop .inv .1), read-more (p5 .args .line .now) (p5 .args .shape .now) (p4 .loop .v) (p4 .loop .i) _ (omega arith) (p4 .loop .inv .2) (ap (λ (w : List ℕ). argumentOf w (getD (p5 .args .shape .now) (p4 .loop .i) 0)) (sym (p3 .word .ensures)) ∙ sym (p2 .argument .ensures) ∙ p1 .x .given .1))
 
 returns-4 : tie.Need-returns-4 Inv-loop μ-loop
 returns-4 c = λ e. let h : c .before .loop .i ≡ length (c .before .before .before .before .before .before .before .args .shape .now) = omega arith in rw h at (c .before .loop .inv .2)

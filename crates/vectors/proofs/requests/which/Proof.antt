@@ -34,7 +34,11 @@ loop-less : tie.Need-loop-less Inv-loop μ-loop
 loop-less c = search needs
 
 loop-again : tie.Need-loop-again Inv-loop μ-loop
-loop-again c = (omega arith, below-more _ _ (c .before .before .before .before .loop .inv .1) (λ e. let z : _≡_ true false = sym (c .before .same .ensures .1 (e ∙ sym (c .before .before .word .ensures))) ∙ c .if1 .left in let y : _≡_ {A = ℕ} 0 1 = cc in absurd (omega arith)))
+loop-again c =
+    let p1 = c .before in
+    let p2 = p1 .before in
+    let p3 = p2 .before .before in
+    (omega arith, below-more _ _ (p3 .loop .inv .1) (λ e. let z : _≡_ true false = sym (p1 .same .ensures .1 (e ∙ sym (p2 .word .ensures))) ∙ c .if1 .left in let y : _≡_ {A = ℕ} 0 1 = cc in absurd (omega arith)))
 
 returns-2 : tie.Need-returns-2 Inv-loop μ-loop
 returns-2 c = record { here = λ h. absurd (omega arith); before = λ k h g e. c .before .loop .inv .1 k (omega arith) e }
