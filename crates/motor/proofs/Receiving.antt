@@ -1,0 +1,50 @@
+-- What a motor answers to a frame, case by case in the numbers' order. Assumes nothing.
+use Prim.Native.Nat.{ℕ}
+use mathlib.Core.Path.{_≡_}
+use mathlib.Core.Bool.{true, false}
+use borrow.Author.Tests.{eqb-true, eq-eqb, ne-eqb}
+use Rattle.codec.specs.declared.bus.CanFrame.{CanFrame}
+use Rattle.codec.specs.declared.error.Refusal.the-variants.{FrameNotAccepted, TimeOutOfRange, ReadFailed, ReadingsFull}
+use Rattle.codec.specs.declared.error.Checked.the-variants.{Passed, Refused}
+use Rattle.codec.specs.Kinds.{among}
+use Rattle.motor.specs.declared.motor.State.{State}
+use Rattle.motor.specs.declared.motor.Motor.{Motor}
+use Rattle.motor.specs.declared.readings.PutResult.{PutResult}
+use Rattle.motor.specs.declared.readings.PutAnswer.the-variants.{Kept, Full}
+use Rattle.motor.specs.Readings.{putOf}
+use Rattle.motor.specs.Receive.{frameType, accepts, late, counted, feedbackAfter, faultAfter, pingAfter, told, isRead, readStatus, readId, readStored, frameSaid, stateAfter, readingsAfter, heardWith, heardOf}
+
+-- a read reply tells nothing but its value
+pub read-tells : (s : State) (f : CanFrame) → isRead f ≡ true → told s f ≡ s
+unfolding told isRead feedbackAfter faultAfter pingAfter
+read-tells s f h = rw (eqb-true (frameType f) 17 h)
+
+module _ (m : Motor) (f : CanFrame) (now : ℕ) where
+  pub heard-13 : accepts (m .state .«motor_id») f ≡ false → heardOf m f now ≡ heardWith (m .state) (m .readings) (Refused FrameNotAccepted)
+  unfolding heardOf frameSaid stateAfter readingsAfter among
+  heard-13 a = rw a
+
+  module _ (a : accepts (m .state .«motor_id») f ≡ true) where
+    pub heard-7 : late (m .state .clock) now ≡ true → heardOf m f now ≡ heardWith (m .state) (m .readings) (Refused TimeOutOfRange)
+    unfolding heardOf frameSaid stateAfter readingsAfter among
+    heard-7 l = rw (a, l)
+
+    module _ (l : late (m .state .clock) now ≡ false) where
+      pub heard-other : isRead f ≡ false → heardOf m f now ≡ heardWith (told (counted (m .state) now) f) (m .readings) Passed
+      unfolding heardOf frameSaid stateAfter readingsAfter
+      heard-other r = rw (a, l, r, r)
+
+      module _ (r : isRead f ≡ true) where
+        pub heard-14 : (readStatus f ≡ 0 → ⊥)
+            → heardOf m f now ≡ heardWith (counted (m .state) now) (m .readings) (Refused (ReadFailed (readId f) (readStatus f)))
+        unfolding heardOf frameSaid stateAfter readingsAfter among
+        heard-14 s = rw (a, l, r, ne-eqb (readStatus f) 0 s)
+
+        module _ (s : readStatus f ≡ 0) (p : PutResult) (e : p ≡ putOf (m .readings) (readId f) (readStored f)) where
+          pub heard-15 : p .said ≡ Full → heardOf m f now ≡ heardWith (counted (m .state) now) (m .readings) (Refused ReadingsFull)
+          unfolding heardOf frameSaid stateAfter readingsAfter among
+          heard-15 k = rw (a, l, r, eq-eqb (readStatus f) 0 s, ← e, k)
+
+          pub heard-value : p .said ≡ Kept → heardOf m f now ≡ heardWith (counted (m .state) now) (p .readings) Passed
+          unfolding heardOf frameSaid stateAfter readingsAfter
+          heard-value k = rw (a, l, r, eq-eqb (readStatus f) 0 s, ← e, k, r, read-tells (counted (m .state) now) f r)

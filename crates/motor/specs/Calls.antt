@@ -1,0 +1,277 @@
+-- Admission, start, step and removal: their numbers in the paper's order, and what a move changes of what is held. Definitions
+-- only.
+use Prim.Native.Nat.{ℕ}
+use mathlib.Core.Bool.{Bool, true, false, not, _||_}
+use mathlib.Core.List.{List, [], _∷_, _++_}
+use lib.Dec.{eqb, ltb}
+use Rattle.codec.specs.declared.error.Refusal.{Refusal}
+use Rattle.codec.specs.declared.error.Refusal.the-variants as refusal
+use Rattle.codec.specs.declared.error.Checked.{Checked}
+use Rattle.codec.specs.declared.error.Checked.the-variants as checked
+use Rattle.codec.specs.declared.model.Model.{Model}
+use Rattle.codec.specs.declared.model.ModelNamed.{ModelNamed}
+use Rattle.codec.specs.declared.model.ModelNamed.the-variants as named
+use Rattle.codec.specs.declared.protocol.EncodedValue.{EncodedValue}
+use Rattle.codec.specs.declared.protocol.EncodedValue.the-variants as encoded
+use Rattle.codec.specs.Replies.{zeros, protocolChecked}
+use Rattle.codec.specs.Values.{encodedValue}
+use Rattle.engine.specs.declared.command.Command.{Command}
+use Rattle.engine.specs.declared.command.Command.the-variants as command
+use Rattle.engine.specs.declared.operation.Effect.{Effect}
+use Rattle.engine.specs.declared.operation.Effect.the-variants as effect
+use Rattle.engine.specs.declared.operation.Gains.{Gains}
+use Rattle.engine.specs.declared.operation.HeldPing.{HeldPing}
+use Rattle.engine.specs.declared.operation.Operation.{Operation}
+use Rattle.engine.specs.declared.operation.Phase.{Phase}
+use Rattle.engine.specs.declared.operation.Phase.the-variants as phase
+use Rattle.engine.specs.declared.operation.Sight.{Sight}
+use Rattle.motor.specs.declared.feedback.Latest.the-variants as latest
+use Rattle.motor.specs.declared.motor.HeldFault.{HeldFault}
+use Rattle.motor.specs.declared.motor.HeldFault.the-variants as fault
+use Rattle.motor.specs.declared.motor.State.{State}
+use Rattle.motor.specs.declared.registration.Admission.{Admission}
+use Rattle.motor.specs.declared.registration.Admission.the-variants as admission
+use Rattle.engine.specs.declared.node.Wait.{Wait}
+use Rattle.engine.specs.declared.node.Wait.the-variants as wait
+use Rattle.engine.specs.declared.reading.Found.{Found}
+use Rattle.engine.specs.declared.reading.Found.the-variants as found
+use Rattle.motor.specs.Numbers.{firstOf}
+use Rattle.motor.specs.Receive.{late}
+use Rattle.engine.specs.Run.{idle}
+
+-- ---- registration: 1, 2, 3, 9, 7
+
+abbrev pub isUnknown : ModelNamed → Bool
+isUnknown (named.Known m) = false
+isUnknown named.Unknown = true
+
+-- motor id not 1..255; host id above 255
+abbrev pub idNumbers : ℕ → ℕ → List (Bool × Refusal)
+idNumbers id host = (eqb id 0 || ltb 255 id, refusal.MotorIdOutOfRange) ∷ (ltb 255 host, refusal.HostIdOutOfRange) ∷ []
+
+-- wait above 60,000; time above 10^15
+abbrev pub lastNumbers : ℕ → ℕ → List (Bool × Refusal)
+lastNumbers wait now = (ltb 60000 wait, refusal.TimeoutTooLong) ∷ (ltb 1000000000000000 now, refusal.TimeOutOfRange) ∷ []
+
+-- model unknown, before those
+abbrev pub modelNumbers : ModelNamed → ℕ → ℕ → List (Bool × Refusal)
+modelNumbers model wait now = (isUnknown model, refusal.UnknownModel) ∷ lastNumbers wait now
+
+abbrev pub registerNumbers : ℕ → ℕ → ModelNamed → ℕ → ℕ → List (Bool × Refusal)
+registerNumbers id host model wait now = idNumbers id host ++ modelNumbers model wait now
+
+-- the model, where the tests have passed
+abbrev pub admitted : ModelNamed → Admission
+admitted (named.Known m) = admission.Admitted m
+admitted named.Unknown = admission.Refused refusal.UnknownModel
+
+abbrev pub registeredBy : Checked → ModelNamed → Admission
+registeredBy checked.Passed model = admitted model
+registeredBy (checked.Refused r) model = admission.Refused r
+
+abbrev pub registrationOf : ℕ → ℕ → ModelNamed → ℕ → ℕ → Admission
+registrationOf id host model wait now = registeredBy (firstOf (registerNumbers id host model wait now)) model
+
+-- ---- start: 7, 8, 9, then 2, 19, 12, 10, 11. Step: 7, 21. Remove: 7, 8
+
+abbrev pub isIdle : Phase → Bool
+isIdle phase.Idle = true
+isIdle (phase.Pausing k) = false
+isIdle (phase.Waiting w) = false
+
+-- the timeout that a call gives, 0 where it gives none
+abbrev pub timeoutOf : Command → ℕ
+timeoutOf (command.Ping timeout) = timeout
+timeoutOf (command.PingWithHostId host timeout) = timeout
+timeoutOf (command.SetMode m) = 0
+timeoutOf (command.EnsureControlMode m timeout) = timeout
+timeoutOf command.SetZeroPosition = 0
+timeoutOf command.SaveParameters = 0
+timeoutOf (command.GetProtocolFlag timeout) = timeout
+timeoutOf (command.SetProtocol protocol timeout) = timeout
+timeoutOf (command.SetDeviceId new) = 0
+timeoutOf command.Enable = 0
+timeoutOf command.Disable = 0
+timeoutOf command.ClearError = 0
+timeoutOf (command.SetActiveReport on) = 0
+timeoutOf (command.SendCmdMit p v kp kd t) = 0
+timeoutOf (command.SetVelocityTarget v) = 0
+timeoutOf (command.GetControlMode timeout) = timeout
+timeoutOf (command.ControlledStop timeout) = timeout
+timeoutOf (command.WriteParameter id v) = 0
+timeoutOf (command.SendCmdPosVelCsp p v) = 0
+timeoutOf (command.SendCmdPosVelPp p v a) = 0
+timeoutOf (command.RequestParameter id) = 0
+timeoutOf (command.GetParameter id timeout) = timeout
+timeoutOf (command.GetParameterWithHostId id host timeout) = timeout
+timeoutOf (command.GetParameterF32 id timeout) = timeout
+timeoutOf (command.GetParameterI8 id timeout) = timeout
+
+-- 10 and 11: what the encoder says of a value
+abbrev pub encodes : EncodedValue → Checked
+encodes (encoded.Raw raw) = checked.Passed
+encodes (encoded.Refused r) = checked.Refused r
+
+-- 2: a named host above 255
+abbrev pub hostChecked : ℕ → Checked
+hostChecked host = firstOf ((ltb 255 host, refusal.HostIdOutOfRange) ∷ [])
+
+-- 19: the new device id is 0
+abbrev pub newIdChecked : ℕ → Checked
+newIdChecked new = firstOf ((eqb new 0, refusal.NewDeviceIdZero) ∷ [])
+
+-- 2, 19, 12, 10, 11: no call has more than one of the first three, nor one of them beside the last two
+abbrev pub arguedOf : Command → Checked
+arguedOf (command.Ping timeout) = checked.Passed
+arguedOf (command.PingWithHostId host timeout) = hostChecked host
+arguedOf (command.SetMode m) = checked.Passed
+arguedOf (command.EnsureControlMode m timeout) = checked.Passed
+arguedOf command.SetZeroPosition = checked.Passed
+arguedOf command.SaveParameters = checked.Passed
+arguedOf (command.GetProtocolFlag timeout) = checked.Passed
+arguedOf (command.SetProtocol protocol timeout) = protocolChecked protocol
+arguedOf (command.SetDeviceId new) = newIdChecked new
+arguedOf command.Enable = checked.Passed
+arguedOf command.Disable = checked.Passed
+arguedOf command.ClearError = checked.Passed
+arguedOf (command.SetActiveReport on) = checked.Passed
+arguedOf (command.SendCmdMit p v kp kd t) = checked.Passed
+arguedOf (command.SetVelocityTarget v) = checked.Passed
+arguedOf (command.GetControlMode timeout) = checked.Passed
+arguedOf (command.ControlledStop timeout) = checked.Passed
+arguedOf (command.WriteParameter id v) = encodes (encodedValue id v)
+arguedOf (command.SendCmdPosVelCsp p v) = checked.Passed
+arguedOf (command.SendCmdPosVelPp p v a) = checked.Passed
+arguedOf (command.RequestParameter id) = checked.Passed
+arguedOf (command.GetParameter id timeout) = checked.Passed
+arguedOf (command.GetParameterWithHostId id host timeout) = hostChecked host
+arguedOf (command.GetParameterF32 id timeout) = checked.Passed
+arguedOf (command.GetParameterI8 id timeout) = checked.Passed
+
+-- the first that applies, else what comes after
+abbrev pub orElse : Checked → Checked → Checked
+orElse checked.Passed after = after
+orElse (checked.Refused r) after = checked.Refused r
+
+abbrev pub admittedOf : ℕ → Phase → Command → ℕ → Checked
+admittedOf clock phase c now =
+    firstOf
+    ((late clock now, refusal.TimeOutOfRange)
+    ∷ (not (isIdle phase), refusal.OperationRunning)
+    ∷ (ltb 60000 (timeoutOf c), refusal.TimeoutTooLong)
+    ∷ [])
+
+abbrev pub startSaid : ℕ → Phase → Command → ℕ → Checked
+startSaid clock phase c now = orElse (admittedOf clock phase c now) (arguedOf c)
+
+abbrev pub stepSaid : ℕ → Phase → ℕ → Checked
+stepSaid clock phase now = firstOf ((late clock now, refusal.TimeOutOfRange) ∷ (isIdle phase, refusal.NothingRunning) ∷ [])
+
+abbrev pub removeSaid : ℕ → Phase → ℕ → Checked
+removeSaid clock phase now = firstOf ((late clock now, refusal.TimeOutOfRange) ∷ (not (isIdle phase), refusal.OperationRunning) ∷ [])
+
+-- ---- what is held at first, and what a move changes
+
+abbrev pub noCommand : Command
+noCommand = command.Ping 0
+
+abbrev pub noPing : HeldPing
+noPing = record { held = false; reply = record { «device_id» = 0; «responder_id» = 0; payload = zeros } }
+
+abbrev pub noGains : Gains
+noGains = record { kp = record { bits = 0 }; kd = record { bits = 0 } }
+
+-- response count, feedback sequence and gains 0; feedback, fault report, ping reply and operation none
+abbrev pub newState : ℕ → ℕ → Model → ℕ → ℕ → State
+newState id host model wait now =
+    record {
+      «motor_id» = id;
+      «feedback_id» = host;
+      model = model;
+      «write_wait» = wait;
+      clock = now;
+      responses = 0;
+      feedback = record { latest = latest.Nothing; sequence = 0 };
+      gains = noGains;
+      «fault_report» = fault.Nothing;
+      «ping_reply» = noPing;
+      operation = idle;
+      command = noCommand;
+    }
+
+abbrev pub sightOf : State → Sight
+sightOf s =
+    record {
+      «motor_id» = s .«motor_id»;
+      «feedback_id» = s .«feedback_id»;
+      model = s .model;
+      «write_wait» = s .«write_wait»;
+      sequence = s .feedback .sequence;
+      responses = s .responses;
+      «ping_reply» = s .«ping_reply»;
+      gains = s .gains;
+    }
+
+abbrev pub gainsBy : Effect → Gains → Gains
+gainsBy effect.Nothing g = g
+gainsBy (effect.ForgetReading id) g = g
+gainsBy effect.ForgetPing g = g
+gainsBy effect.ForgetFault g = g
+gainsBy (effect.HoldGains new) g = new
+
+abbrev pub faultBy : Effect → HeldFault → HeldFault
+faultBy effect.Nothing f = f
+faultBy (effect.ForgetReading id) f = f
+faultBy effect.ForgetPing f = f
+faultBy effect.ForgetFault f = fault.Nothing
+faultBy (effect.HoldGains new) f = f
+
+abbrev pub pingBy : Effect → HeldPing → HeldPing
+pingBy effect.Nothing p = p
+pingBy (effect.ForgetReading id) p = p
+pingBy effect.ForgetPing p = noPing
+pingBy effect.ForgetFault p = p
+pingBy (effect.HoldGains new) p = p
+
+-- the readings after a move that may drop one
+abbrev pub readingsBy : {A : Type 0} → Effect → (ℕ → A) → A → A
+readingsBy effect.Nothing drop l = l
+readingsBy (effect.ForgetReading id) drop l = drop id
+readingsBy effect.ForgetPing drop l = l
+readingsBy effect.ForgetFault drop l = l
+readingsBy (effect.HoldGains new) drop l = l
+
+-- finished or failed leaves no operation
+abbrev pub commandIn : Phase → Command → Command
+commandIn phase.Idle c = noCommand
+commandIn (phase.Pausing k) c = c
+commandIn (phase.Waiting w) c = c
+
+-- the state after a move of this command at this time
+abbrev pub movedBy : State → ℕ → Command → Operation → Effect → State
+movedBy s now c op e =
+    record {
+      «motor_id» = s .«motor_id»;
+      «feedback_id» = s .«feedback_id»;
+      model = s .model;
+      «write_wait» = s .«write_wait»;
+      clock = now;
+      responses = s .responses;
+      feedback = s .feedback;
+      gains = gainsBy e (s .gains);
+      «fault_report» = faultBy e (s .«fault_report»);
+      «ping_reply» = pingBy e (s .«ping_reply»);
+      operation = op;
+      command = commandIn (op .phase) c;
+    }
+
+-- the reading of the parameter that is waited for
+abbrev pub wantedBy : Wait → (ℕ → Found) → Found
+wantedBy (wait.Acknowledged by r k) find = found.Nothing
+wantedBy (wait.Value id k) find = find id
+wantedBy (wait.Ping k) find = found.Nothing
+
+abbrev pub wanted : Phase → (ℕ → Found) → Found
+wanted phase.Idle find = found.Nothing
+wanted (phase.Pausing k) find = found.Nothing
+wanted (phase.Waiting w) find = wantedBy w find

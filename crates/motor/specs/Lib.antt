@@ -1,0 +1,13 @@
+pub mod Readings
+pub mod Numbers
+pub mod Receive
+pub mod Calls
+pub mod Lone
+pub mod Motors
+pub mod Bounds
+pub mod Runs
+pub mod RunsOfWaits
+pub mod RunsOfStops
+pub mod RunsOfWrites
+pub mod RunsOfModes
+pub mod RunsOfRefusals

@@ -1,0 +1,171 @@
+-- Receiving: what a frame does to what a motor holds, and what it answers. Definitions only.
+use Prim.Native.Nat.{ℕ, _+_, _-_, _*_, _/_, _%_, _^_, min}
+use mathlib.Core.Bool.{Bool, true, false, cond, not, _&&_, _||_}
+use mathlib.Core.List.{List, [], _∷_}
+use lib.Dec.{eqb, ltb}
+use lib.ListN.{getD}
+use Rattle.codec.specs.declared.bus.CanFrame.{CanFrame}
+use Rattle.codec.specs.declared.error.Refusal.{Refusal}
+use Rattle.codec.specs.declared.error.Refusal.the-variants.{FrameNotAccepted, TimeOutOfRange, ReadFailed, ReadingsFull}
+use Rattle.codec.specs.declared.error.Checked.{Checked}
+use Rattle.codec.specs.declared.error.Checked.the-variants.{Passed, Refused}
+use Rattle.codec.specs.declared.model.Model.{Model}
+use Rattle.codec.specs.declared.status.StatusFrame.{StatusFrame}
+use Rattle.codec.specs.Refusals.{numberOf}
+use Rattle.codec.specs.Ids.{typeOf, extraOf}
+use Rattle.codec.specs.Kinds.{among}
+use Rattle.codec.specs.Models.{limitsOf}
+use Rattle.codec.specs.Status.{statusFrame}
+use Rattle.codec.specs.Faults.{faultReport}
+use Rattle.codec.specs.Replies.{pingReply}
+use Rattle.codec.specs.Values.{readValue}
+use Rattle.engine.specs.declared.operation.HeldPing.{HeldPing}
+use Rattle.motor.specs.declared.feedback.MotorFeedbackState.{MotorFeedbackState}
+use Rattle.motor.specs.declared.feedback.FeedbackCache.{FeedbackCache}
+use Rattle.motor.specs.declared.feedback.Latest.the-variants as latest
+use Rattle.motor.specs.declared.motor.HeldFault.{HeldFault}
+use Rattle.motor.specs.declared.motor.HeldFault.the-variants as fault
+use Rattle.motor.specs.declared.motor.State.{State}
+use Rattle.motor.specs.declared.motor.Motor.{Motor}
+use Rattle.engine.specs.declared.reading.Stored.{Stored}
+use Rattle.motor.specs.declared.readings.Readings.{Readings}
+use Rattle.motor.specs.declared.readings.PutAnswer.{PutAnswer}
+use Rattle.motor.specs.declared.readings.PutAnswer.the-variants.{Kept, Full}
+use Rattle.motor.specs.declared.receive.Heard.{Heard}
+use Rattle.motor.specs.Numbers.{firstOf}
+use Rattle.motor.specs.Readings.{putOf}
+
+abbrev pub frameType : CanFrame → ℕ
+frameType f = typeOf (f .«arbitration_id»)
+
+abbrev pub frameExtra : CanFrame → ℕ
+frameExtra f = extraOf (f .«arbitration_id»)
+
+-- accepted: extended, type 0, 2, 17, 21, 24 or 25, low byte of the extra field equal to the motor's id
+unfoldable pub accepts : ℕ → CanFrame → Bool
+accepts id f = f .«is_extended» && (among (frameType f) (0 ∷ 2 ∷ 17 ∷ 21 ∷ 24 ∷ 25 ∷ []) && eqb (frameExtra f % 256) id)
+
+-- 7: time below the motor's clock, or above 10^15
+unfoldable pub late : ℕ → ℕ → Bool
+late clock now = ltb now clock || ltb 1000000000000000 now
+
+-- ---- what frames change of the state: the rest of it stays
+
+abbrev pub stateWith : State → ℕ → ℕ → FeedbackCache → HeldFault → HeldPing → State
+stateWith s clock responses feedback fault ping =
+    record {
+      «motor_id» = s .«motor_id»;
+      «feedback_id» = s .«feedback_id»;
+      model = s .model;
+      «write_wait» = s .«write_wait»;
+      clock = clock;
+      responses = responses;
+      feedback = feedback;
+      gains = s .gains;
+      «fault_report» = fault;
+      «ping_reply» = ping;
+      operation = s .operation;
+      command = s .command;
+    }
+
+-- the clock takes the frame's time; response count +1 (wraps in 64 bits)
+unfoldable pub counted : State → ℕ → State
+counted s now = stateWith s now ((s .responses + 1) % 2 ^ 64) (s .feedback) (s .«fault_report») (s .«ping_reply»)
+
+-- 0: hold the ping reply
+unfoldable pub pingAfter : HeldPing → CanFrame → HeldPing
+pingAfter old f = cond (eqb (frameType f) 0) (record { held = true; reply = pingReply (f .«arbitration_id») (f .data) }) old
+
+-- a status frame's state, with the whole id
+abbrev pub stateIn : ℕ → StatusFrame → MotorFeedbackState
+stateIn id status =
+    record {
+      «arbitration_id» = id;
+      «device_id» = status .flags .«device_id»;
+      «mode_state» = status .flags .«mode_state»;
+      position = status .position;
+      velocity = status .velocity;
+      torque = status .torque;
+      «temperature_c» = status .«temperature_c»;
+      uncalibrated = status .flags .uncalibrated;
+      stall = status .flags .stall;
+      «magnetic_encoder_fault» = status .flags .«magnetic_encoder_fault»;
+      overtemperature = status .flags .overtemperature;
+      overcurrent = status .flags .overcurrent;
+      undervoltage = status .flags .undervoltage;
+    }
+
+unfoldable pub feedbackIn : Model → CanFrame → MotorFeedbackState
+feedbackIn model f = stateIn (f .«arbitration_id») (statusFrame (frameExtra f) (f .data) (limitsOf model))
+
+-- sequence +1 (stays at its maximum)
+unfoldable pub nextSequence : ℕ → ℕ
+nextSequence n = min (n + 1) (2 ^ 64 - 1)
+
+abbrev pub updated : FeedbackCache → MotorFeedbackState → FeedbackCache
+updated old state = record { latest = latest.State state; sequence = nextSequence (old .sequence) }
+
+-- 2 and 24: new feedback
+unfoldable pub feedbackAfter : FeedbackCache → Model → CanFrame → FeedbackCache
+feedbackAfter old model f = cond (eqb (frameType f) 2 || eqb (frameType f) 24) (updated old (feedbackIn model f)) old
+
+-- 21: hold the fault report
+unfoldable pub faultAfter : HeldFault → CanFrame → HeldFault
+faultAfter old f = cond (eqb (frameType f) 21) (fault.Report (faultReport (f .data))) old
+
+-- what types 0, 2, 24 and 21 tell; 25 and 17 nothing here
+unfoldable pub told : State → CanFrame → State
+told s f =
+    stateWith s (s .clock) (s .responses) (feedbackAfter (s .feedback) (s .model) f) (faultAfter (s .«fault_report») f) (pingAfter (s .«ping_reply») f)
+
+-- ---- 17: status is the extra field's high byte; zero holds the value
+
+unfoldable pub isRead : CanFrame → Bool
+isRead f = eqb (frameType f) 17
+
+unfoldable pub readStatus : CanFrame → ℕ
+readStatus f = frameExtra f / 256
+
+-- bytes 0 and 1, the lower first
+unfoldable pub readId : CanFrame → ℕ
+readId f = getD (f .data) 0 0 + getD (f .data) 1 0 * 256
+
+unfoldable pub readStored : CanFrame → Stored
+readStored f = record { value = readValue (readId f) (f .data) }
+
+-- ---- Frame: 13, 7, 14, 15. `full` where there is no room for the value
+
+abbrev pub frameNumbers : State → CanFrame → ℕ → Bool → List (Bool × Refusal)
+frameNumbers s f now full =
+    (not (accepts (s .«motor_id») f), FrameNotAccepted)
+    ∷ (late (s .clock) now, TimeOutOfRange)
+    ∷ (isRead f && not (eqb (readStatus f) 0), ReadFailed (readId f) (readStatus f))
+    ∷ (isRead f && full, ReadingsFull)
+    ∷ []
+
+unfoldable pub frameSaid : State → CanFrame → ℕ → Bool → Checked
+frameSaid s f now full = firstOf (frameNumbers s f now full)
+
+-- refused other than by 14 or 15, nothing changes; 14 and 15 raise the count and leave what is held
+unfoldable pub stateAfter : Checked → State → CanFrame → ℕ → State
+stateAfter Passed s f now = told (counted s now) f
+stateAfter (Refused r) s f now = cond (among (numberOf r) (14 ∷ 15 ∷ [])) (counted s now) s
+
+-- the new readings where a value was put
+unfoldable pub readingsAfter : {A : Type 0} → Checked → CanFrame → A → A → A
+readingsAfter Passed f new old = cond (isRead f) new old
+readingsAfter (Refused r) f new old = old
+
+abbrev pub isFull : PutAnswer → Bool
+isFull Kept = false
+isFull Full = true
+
+abbrev pub heardWith : State → Readings → Checked → Heard
+heardWith state readings said = record { motor = record { state = state; readings = readings }; said = said }
+
+-- the motor's answer, on any value
+unfoldable pub heardOf : Motor → CanFrame → ℕ → Heard
+heardOf m f now =
+    let put = putOf (m .readings) (readId f) (readStored f) in
+    let said = frameSaid (m .state) f now (isFull (put .said)) in
+    heardWith (stateAfter said (m .state) f now) (readingsAfter said f (put .readings) (m .readings)) said

@@ -1,0 +1,130 @@
+-- Whole runs of the lone motor, as examples: inputs with their times, and what is to be answered. Definitions only; the examples
+-- stand in RunsOf files, as tables that antt computes. Their frames and times were worked out from motor.rs.
+use Prim.Native.Nat.{ℕ}
+use mathlib.Core.Path.{_≡_}
+use mathlib.Core.Bool.{true, false}
+use mathlib.Core.List.{List, [], _∷_}
+use Rattle.codec.specs.declared.bus.CanFrame.{CanFrame}
+use Rattle.codec.specs.declared.error.Checked.{Checked}
+use Rattle.codec.specs.declared.error.Checked.the-variants as checked
+use Rattle.codec.specs.declared.error.Refusal.{Refusal}
+use Rattle.codec.specs.declared.model.Model.{Model}
+use Rattle.codec.specs.declared.protocol.ParameterValue.{ParameterValue}
+use Rattle.codec.specs.declared.word.Word.{Word}
+use Rattle.codec.specs.Replies.{zeros}
+use Rattle.engine.specs.declared.command.Command.{Command}
+use Rattle.engine.specs.declared.command.Outcome.{Outcome}
+use Rattle.engine.specs.declared.command.Said.{Said}
+use Rattle.engine.specs.declared.command.Said.the-variants as said
+use Rattle.engine.specs.declared.operation.Gains.{Gains}
+use Rattle.motor.specs.declared.motor.HeldFault.{HeldFault}
+use Rattle.motor.specs.declared.readings.Entry.{Entry}
+use Rattle.motor.specs.Lone.{Lone, LoneAnswered, loneNew, loneStart, loneStep, hears}
+use Rattle.engine.specs.Requests.{noFrame}
+
+-- a word, eight bytes, a reading
+abbrev pub word : ℕ → Word
+word bits = record { bits = bits }
+
+abbrev pub bytes : ℕ → ℕ → ℕ → ℕ → ℕ → ℕ → ℕ → ℕ → List ℕ
+bytes a b c d e f g h = a ∷ b ∷ c ∷ d ∷ e ∷ f ∷ g ∷ h ∷ []
+
+abbrev pub held : ℕ → ParameterValue → Entry
+held id v = record { id = id; held = record { value = v } }
+
+-- ---- inputs
+
+-- a start, a step, or an extended frame of this id and payload; the time is last
+pub data Input : Type 0 where
+  start : Command → ℕ → Input
+  step : ℕ → Input
+  frame : ℕ → List ℕ → ℕ → Input
+
+-- motor 1, newly registered at time 100
+abbrev pub fresh : ℕ → Model → ℕ → Lone
+fresh own model wait = loneNew 1 own model wait 100
+
+-- a frame as it comes
+abbrev pub received : ℕ → List ℕ → CanFrame
+received id payload = record { «arbitration_id» = id; «data» = payload; dlc = 8; «is_extended» = true; «is_rx» = true }
+
+-- a status frame of motor 1
+abbrev pub status : ℕ → Input
+status now = frame 0x028001FD zeros now
+
+-- motor 1's reply to a read, with these eight bytes
+abbrev pub reply : List ℕ → ℕ → Input
+reply payload now = frame 0x110001FD payload now
+
+-- ---- answers
+
+-- to a start or a step: what is said, the frame, the result's bytes; to a frame: accepted, or a number
+pub data Answer : Type 0 where
+  answered : Said → CanFrame → List ℕ → Answer
+  heard : Checked → Answer
+
+-- a frame as it is sent
+abbrev pub sending : ℕ → List ℕ → CanFrame
+sending id payload = record { «arbitration_id» = id; «data» = payload; dlc = 8; «is_extended» = true; «is_rx» = false }
+
+abbrev pub sent : ℕ → ℕ → List ℕ → Answer
+sent due id payload = answered (said.Sent due) (sending id payload) zeros
+
+abbrev pub waiting : ℕ → Answer
+waiting due = answered (said.Waiting due) noFrame zeros
+
+abbrev pub finished : Outcome → Answer
+finished r = answered (said.Finished r) noFrame zeros
+
+abbrev pub finishedWith : Outcome → ℕ → List ℕ → Answer
+finishedWith r id payload = answered (said.FinishedWith r) (sending id payload) zeros
+
+abbrev pub refused : Refusal → Answer
+refused r = answered (said.Refused r) noFrame zeros
+
+abbrev pub passed : Answer
+passed = heard checked.Passed
+
+-- ---- a run
+
+abbrev pub answerOf : LoneAnswered → Answer
+answerOf a = answered (a .said) (a .frame) (a .result)
+
+-- the answers to inputs, in order
+unfoldable pub runs : Lone → List Input → List Answer
+runs l [] = []
+runs l (start c now ∷ inputs) =
+    let a = loneStart l c now in
+    answerOf a ∷ runs (a .lone) inputs
+runs l (step now ∷ inputs) =
+    let a = loneStep l now in
+    answerOf a ∷ runs (a .lone) inputs
+runs l (frame id payload now ∷ inputs) =
+    let h = hears l (received id payload) now in
+    heard (h .said) ∷ runs (h .lone) inputs
+
+-- the lone motor after inputs
+unfoldable pub after : Lone → List Input → Lone
+after l [] = l
+after l (start c now ∷ inputs) = after (loneStart l c now .lone) inputs
+after l (step now ∷ inputs) = after (loneStep l now .lone) inputs
+after l (frame id payload now ∷ inputs) = after (hears l (received id payload) now .lone) inputs
+
+-- ---- a table: a run with its answers, or what is held then, and what it is to be
+
+pub data Row : Type 0 where
+  run : Lone → List Input → List Answer → Row
+  number : ℕ → ℕ → Row
+  gains : Gains → Gains → Row
+  fault : HeldFault → HeldFault → Row
+  readings : List Entry → List Entry → Row
+  removal : Checked → Checked → Row
+
+abbrev pub Holds : List Row → Type 0
+Holds [] = Unit
+Holds (run l inputs answers ∷ rows) = (runs l inputs ≡ answers) × Holds rows
+Holds (number a b ∷ rows) = (a ≡ b) × Holds rows
+Holds (gains a b ∷ rows) = (a ≡ b) × Holds rows
+Holds (fault a b ∷ rows) = (a ≡ b) × Holds rows
+Holds (readings a b ∷ rows) = (a ≡ b) × Holds rows
+Holds (removal a b ∷ rows) = (a ≡ b) × Holds rows

@@ -1,0 +1,107 @@
+// The arguments of a call: its timeout, and the numbers that only they can give.
+use codec::error::Checked;
+use codec::error::Refusal;
+use codec::protocol::EncodedValue;
+use codec::protocol::ParameterValue;
+use codec::protocol::encode_parameter_value;
+use codec::protocol::validate_protocol_cmd;
+use engine::command::Command;
+ghost use mathlib.Core.Path.{_≡_};
+ghost use Rattle.codec.specs.Values.{encodedValue};
+ghost use Rattle.motor.specs.Calls.{timeoutOf, hostChecked, newIdChecked, encodes, arguedOf};
+
+// The timeout that a call gives, 0 where it gives none.
+pub(crate) fn timeout_of(command: Command) -> u64
+    ensures { λ r. ⌜ r ≡ timeoutOf command ⌝ }
+{
+    match command {
+        Command::Ping(timeout) => timeout,
+        Command::PingWithHostId(_, timeout) => timeout,
+        Command::SetMode(_) => 0,
+        Command::EnsureControlMode(_, timeout) => timeout,
+        Command::SetZeroPosition => 0,
+        Command::SaveParameters => 0,
+        Command::GetProtocolFlag(timeout) => timeout,
+        Command::SetProtocol(_, timeout) => timeout,
+        Command::SetDeviceId(_) => 0,
+        Command::Enable => 0,
+        Command::Disable => 0,
+        Command::ClearError => 0,
+        Command::SetActiveReport(_) => 0,
+        Command::SendCmdMit(_, _, _, _, _) => 0,
+        Command::SetVelocityTarget(_) => 0,
+        Command::GetControlMode(timeout) => timeout,
+        Command::ControlledStop(timeout) => timeout,
+        Command::WriteParameter(_, _) => 0,
+        Command::SendCmdPosVelCsp(_, _) => 0,
+        Command::SendCmdPosVelPp(_, _, _) => 0,
+        Command::RequestParameter(_) => 0,
+        Command::GetParameter(_, timeout) => timeout,
+        Command::GetParameterWithHostId(_, _, timeout) => timeout,
+        Command::GetParameterF32(_, timeout) => timeout,
+        Command::GetParameterI8(_, timeout) => timeout,
+    }
+}
+
+// 2: a named host above 255.
+fn host_checked(host_id: u16) -> Checked
+    ensures { λ r. ⌜ r ≡ hostChecked «host_id» ⌝ }
+{
+    if host_id > 255 {
+        return Checked::Refused(Refusal::HostIdOutOfRange);
+    }
+    Checked::Passed
+}
+
+// 19: the new device id is 0.
+fn new_id_checked(new_id: u8) -> Checked
+    ensures { λ r. ⌜ r ≡ newIdChecked «new_id» ⌝ }
+{
+    if new_id == 0 {
+        return Checked::Refused(Refusal::NewDeviceIdZero);
+    }
+    Checked::Passed
+}
+
+// 10 and 11: what the encoder says of a value.
+fn value_checked(param_id: u16, value: ParameterValue) -> Checked
+    ensures { λ r. ⌜ r ≡ encodes (encodedValue «param_id» value) ⌝ }
+{
+    match encode_parameter_value(param_id, value) {
+        EncodedValue::Raw(_) => Checked::Passed,
+        EncodedValue::Refused(refusal) => Checked::Refused(refusal),
+    }
+}
+
+// 2, 19, 12, 10, 11.
+pub(crate) fn argued(command: Command) -> Checked
+    ensures { λ r. ⌜ r ≡ arguedOf command ⌝ }
+{
+    match command {
+        Command::Ping(_) => Checked::Passed,
+        Command::PingWithHostId(host_id, _) => host_checked(host_id),
+        Command::SetMode(_) => Checked::Passed,
+        Command::EnsureControlMode(_, _) => Checked::Passed,
+        Command::SetZeroPosition => Checked::Passed,
+        Command::SaveParameters => Checked::Passed,
+        Command::GetProtocolFlag(_) => Checked::Passed,
+        Command::SetProtocol(protocol_cmd, _) => validate_protocol_cmd(protocol_cmd),
+        Command::SetDeviceId(new_id) => new_id_checked(new_id),
+        Command::Enable => Checked::Passed,
+        Command::Disable => Checked::Passed,
+        Command::ClearError => Checked::Passed,
+        Command::SetActiveReport(_) => Checked::Passed,
+        Command::SendCmdMit(_, _, _, _, _) => Checked::Passed,
+        Command::SetVelocityTarget(_) => Checked::Passed,
+        Command::GetControlMode(_) => Checked::Passed,
+        Command::ControlledStop(_) => Checked::Passed,
+        Command::WriteParameter(param_id, value) => value_checked(param_id, value),
+        Command::SendCmdPosVelCsp(_, _) => Checked::Passed,
+        Command::SendCmdPosVelPp(_, _, _) => Checked::Passed,
+        Command::RequestParameter(_) => Checked::Passed,
+        Command::GetParameter(_, _) => Checked::Passed,
+        Command::GetParameterWithHostId(_, host_id, _) => host_checked(host_id),
+        Command::GetParameterF32(_, _) => Checked::Passed,
+        Command::GetParameterI8(_, _) => Checked::Passed,
+    }
+}

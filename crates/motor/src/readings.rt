@@ -1,0 +1,254 @@
+// Readings: what a motor keeps for each parameter, in 96 records that form two chains.
+use codec::protocol::ParameterValue;
+use engine::reading::Found;
+use engine::reading::Stored;
+ghost use mathlib.Core.Path.{_≡_};
+ghost use mathlib.Core.List.{List};
+ghost use Prim.Native.Nat.{_≤_, _<_};
+ghost use Rattle.motor.specs.Readings.{Lists, Rep, Holds, Puts, atFirst, lookup, dropIn, listing, noStored, freeRecord, withNext, seekFrom, holderAt, addAt, emptyReadings, findOf, putOf, dropOf, listingOf};
+
+// A record. The next of the last one is 0.
+pub struct Reading {
+    pub id: u16,
+    pub held: Stored,
+    pub next: u16,
+}
+
+// Slot 0 is the head: its next is the first record held. A record's number is its index.
+pub struct Readings {
+    pub records: [Reading; 97],
+    pub free: u16,
+}
+
+// Full is 15: 96 others are held and the id is new.
+pub enum PutAnswer {
+    Kept,
+    Full,
+}
+
+pub struct PutResult {
+    pub said: PutAnswer,
+    pub readings: Readings,
+}
+
+pub struct Entry {
+    pub id: u16,
+    pub held: Stored,
+}
+
+// What is held, along the chain; the entries past count are blank.
+pub struct Listing {
+    pub count: u16,
+    pub entries: [Entry; 96],
+}
+
+// What a record that holds nothing keeps.
+fn blank() -> Stored
+    ensures { λ r. ⌜ r ≡ noStored ⌝ }
+{
+    let value = ParameterValue::I8(0);
+    Stored { value }
+}
+
+// A record that holds nothing.
+fn free_record(next: u16) -> Reading
+    ensures { λ r. ⌜ r ≡ freeRecord next ⌝ }
+{
+    let held = blank();
+    Reading { id: 0, held, next }
+}
+
+// Nothing held, and the free records chained from 1 to 96.
+pub fn empty() -> Readings
+    ensures is { λ r. ⌜ r ≡ emptyReadings ⌝ }
+    ensures means { λ r. ⌜ Rep r atFirst ⌝ }
+{
+    let last = free_record(0);
+    let mut records = [last; 97];
+    let mut i: u16 = 1;
+    while i < 96 {
+        let at = i as usize;
+        let record = free_record(i + 1);
+        records[at] = record;
+        i += 1;
+    }
+    Readings { records, free: 1 }
+}
+
+// The last record, 0 for the head, before the place of id.
+fn seek(rs: Readings, id: u16) -> u16
+    ensures { λ r. ⌜ (r ≤ 96) × (r ≡ seekFrom 96 (rs .records) id 0) ⌝ }
+{
+    let mut p: u16 = 0;
+    let mut left: u16 = 96;
+    while 0 < left {
+        let at = p as usize;
+        let n = rs.records[at].next;
+        if n == 0 {
+            return p;
+        }
+        if 96 < n {
+            return p;
+        }
+        let k = n as usize;
+        let m = rs.records[k].id;
+        if id <= m {
+            return p;
+        }
+        p = n;
+        left -= 1;
+    }
+    p
+}
+
+// The record after record p where it holds id, else 0.
+fn holder(rs: Readings, id: u16, p: u16) -> u16
+    requires { ⌜ p ≤ 96 ⌝ }
+    ensures { λ r. ⌜ (r ≤ 96) × (r ≡ holderAt (rs .records) id p) ⌝ }
+{
+    let at = p as usize;
+    let n = rs.records[at].next;
+    if n == 0 {
+        return 0;
+    }
+    if 96 < n {
+        return 0;
+    }
+    let k = n as usize;
+    let m = rs.records[k].id;
+    if m == id {
+        return n;
+    }
+    0
+}
+
+// What is held for id.
+pub fn find(rs: Readings, id: u16) -> Found
+    ensures is { λ r. ⌜ r ≡ findOf rs id ⌝ }
+    ensures means { λ r. ⌜ ((l : List Entry) → Holds rs l → r ≡ lookup id l) ⌝ }
+{
+    let p = seek(rs, id);
+    let n = holder(rs, id, p);
+    if n == 0 {
+        return Found::Nothing;
+    }
+    let k = n as usize;
+    let r = rs.records[k];
+    let held = r.held;
+    Found::Held(held)
+}
+
+fn with_next(rs: Readings, at: usize, n: u16) -> Readings
+    requires { ⌜ at < 97 ⌝ }
+    ensures { λ r. ⌜ r ≡ withNext rs at n ⌝ }
+{
+    let mut out = rs;
+    let r = out.records[at];
+    let held = r.held;
+    out.records[at] = Reading {
+        id: r.id,
+        held,
+        next: n,
+    };
+    out
+}
+
+// id is not held, and its place is after record p: it takes the first free record.
+fn add(rs: Readings, id: u16, held: Stored, p: u16) -> PutResult
+    requires { ⌜ p ≤ 96 ⌝ }
+    ensures { λ r. ⌜ r ≡ addAt rs id held p ⌝ }
+{
+    let f = rs.free;
+    if f == 0 {
+        return PutResult {
+            said: PutAnswer::Full,
+            readings: rs,
+        };
+    }
+    if 96 < f {
+        return PutResult {
+            said: PutAnswer::Full,
+            readings: rs,
+        };
+    }
+    let j = f as usize;
+    let at = p as usize;
+    let next = rs.records[at].next;
+    let free = rs.records[j].next;
+    let mut out = rs;
+    out.records[j] = Reading { id, held, next };
+    out.free = free;
+    let readings = with_next(out, at, f);
+    PutResult {
+        said: PutAnswer::Kept,
+        readings,
+    }
+}
+
+// Keeps held for id: in the record that holds id, else in the first free one.
+pub fn put(rs: Readings, id: u16, held: Stored) -> PutResult
+    ensures is { λ r. ⌜ r ≡ putOf rs id held ⌝ }
+    ensures means { λ r. ⌜ ((ls : Lists) → Rep rs ls → Puts rs ls id held r) ⌝ }
+{
+    let p = seek(rs, id);
+    let n = holder(rs, id, p);
+    if n == 0 {
+        return add(rs, id, held, p);
+    }
+    let k = n as usize;
+    let next = rs.records[k].next;
+    let mut out = rs;
+    out.records[k] = Reading { id, held, next };
+    PutResult {
+        said: PutAnswer::Kept,
+        readings: out,
+    }
+}
+
+// Holds id no longer: its record is blank, and the first free one.
+pub fn drop_id(rs: Readings, id: u16) -> Readings
+    ensures is { λ r. ⌜ r ≡ dropOf rs id ⌝ }
+    ensures means { λ r. ⌜ ((ls : Lists) → Rep rs ls → Rep r (dropIn id ls)) ⌝ }
+{
+    let p = seek(rs, id);
+    let n = holder(rs, id, p);
+    if n == 0 {
+        return rs;
+    }
+    let at = p as usize;
+    let k = n as usize;
+    let next = rs.records[k].next;
+    let freed = free_record(rs.free);
+    let mut out = rs;
+    out.records[k] = freed;
+    out.free = n;
+    with_next(out, at, next)
+}
+
+// Everything held, along the chain.
+pub fn listed(rs: Readings) -> Listing
+    ensures is { λ r. ⌜ r ≡ listingOf rs ⌝ }
+    ensures means { λ r. ⌜ ((l : List Entry) → Holds rs l → r ≡ listing l) ⌝ }
+{
+    let held = blank();
+    let none = Entry { id: 0, held };
+    let mut entries = [none; 96];
+    let mut count: u16 = 0;
+    let mut n = rs.records[0].next;
+    while count < 96 {
+        if n == 0 {
+            return Listing { count, entries };
+        }
+        if 96 < n {
+            return Listing { count, entries };
+        }
+        let k = n as usize;
+        let r = rs.records[k];
+        let held = r.held;
+        let i = count as usize;
+        entries[i] = Entry { id: r.id, held };
+        n = r.next;
+        count += 1;
+    }
+    Listing { count, entries }
+}
