@@ -81,7 +81,7 @@ setMode m k = put 0x7005 (value.I8 (modeNumber m)) k
 abbrev pub ping : ℕ → Pinged → Node
 ping timeout k = node.Await (wait.Ping k) (windowOf timeout 120) hosts.Candidates
 
--- 0.0, and 1 of zero_sta
+-- 0.0
 abbrev pub zeroWord : Word
 zeroWord = record { bits = 0 }
 
