@@ -1,0 +1,293 @@
+//! A log as a session of the replay program, and the answers to expect, as REPLAY.md has them.
+//!
+//! The Rust acts when it is called and each time it wakes, until it waits again or ends. A step stands
+//! at each time at which it woke. Where it sends several frames in one go, each but the first has a
+//! step of its own at the same time.
+use crate::command::Given;
+use crate::frame::Frame;
+use crate::held::Held;
+use crate::log::{Entry, Hearing, Log, What, Why};
+use crate::refusal::Refusal;
+
+/// How many readings a motor holds in document 01; the Rust has no such bound.
+const MOST_READINGS: usize = 96;
+
+/// What a session has beside starts, frames and the steps that matter.
+#[derive(Clone, Copy, Debug, PartialEq, Eq)]
+pub struct Detail {
+    /// A step also where the Rust polled and went on waiting as before.
+    pub polls: bool,
+    /// A look after each event.
+    pub looks: bool,
+}
+
+/// An event and the lines that answer it.
+#[derive(Clone, Debug, PartialEq, Eq)]
+pub struct Exchange {
+    pub event: String,
+    pub answers: Vec<String>,
+}
+
+/// The exchanges of a session, in order.
+#[derive(Clone, Debug, PartialEq, Eq)]
+pub struct Session {
+    pub exchanges: Vec<Exchange>,
+}
+
+impl Session {
+    /// The session of a log. An error says what lies beyond document 01.
+    pub fn of(log: &Log, detail: Detail) -> Result<Session, String> {
+        let mut writer = Writer::new(log, detail);
+        for entry in &log.entries {
+            if entry.held().is_some_and(|h| h.values.len() > MOST_READINGS) {
+                return Err(format!("more than {MOST_READINGS} readings held"));
+            }
+            writer.entry(entry);
+        }
+        Ok(Session {
+            exchanges: writer.exchanges,
+        })
+    }
+
+    /// What goes in.
+    pub fn input(&self) -> String {
+        lines(self.exchanges.iter().map(|exchange| &exchange.event))
+    }
+
+    /// What is to come out.
+    pub fn output(&self) -> String {
+        lines(self.exchanges.iter().flat_map(|exchange| &exchange.answers))
+    }
+}
+
+fn lines<'a>(lines: impl Iterator<Item = &'a String>) -> String {
+    lines.flat_map(|line| [line.as_str(), "\n"]).collect()
+}
+
+/// What the Rust does between a call or a waking and its next wait or its end.
+struct Act {
+    event: String,
+    woke: bool,
+    frames: Vec<Frame>,
+}
+
+/// How an act ends.
+#[derive(Clone, Copy)]
+enum End {
+    Waits { why: Why, due: u64 },
+    Ended(Result<Given, Refusal>),
+}
+
+/// A running command: its name and its next due time.
+struct Running {
+    name: String,
+    due: u64,
+}
+
+struct Writer<'a> {
+    log: &'a Log,
+    detail: Detail,
+    exchanges: Vec<Exchange>,
+    act: Option<Act>,
+    running: Option<Running>,
+    clock: u64,
+}
+
+impl<'a> Writer<'a> {
+    fn new(log: &'a Log, detail: Detail) -> Writer<'a> {
+        Writer {
+            log,
+            detail,
+            exchanges: Vec::new(),
+            act: None,
+            running: None,
+            clock: 0,
+        }
+    }
+
+    fn entry(&mut self, entry: &Entry) {
+        let (time, motor) = (entry.time, self.log.motor);
+        match &entry.what {
+            What::Registered(made) => self.registered(time, made),
+            What::Started(command) => {
+                let name = command.name();
+                self.running = Some(Running { name, due: time });
+                self.begin(format!("start {motor} {time} {}", command.text()), false);
+            }
+            What::Woke => self.begin(step(motor, time), true),
+            What::Sent(frame) => {
+                if let Some(act) = &mut self.act {
+                    act.frames.push(*frame);
+                }
+            }
+            What::Waits(waiting) => {
+                let (why, due) = (waiting.why, waiting.due);
+                self.finish(time, End::Waits { why, due }, &waiting.held);
+            }
+            What::Ended(result, held) => self.finish(time, End::Ended(*result), held),
+            What::Heard(frame, hearing, held) => self.heard(time, frame, *hearing, held),
+        }
+    }
+
+    fn registered(&mut self, time: u64, made: &Result<Held, Refusal>) {
+        let log = self.log;
+        let event = format!(
+            "register {} 0x{:02X} {} {} {time}",
+            log.motor, log.host, log.model, log.write_wait
+        );
+        match made {
+            Ok(held) => {
+                self.clock = time;
+                self.say(event, vec!["ok".to_string()]);
+                self.look(held);
+            }
+            Err(refusal) => self.say(event, vec![refusal.text()]),
+        }
+    }
+
+    fn heard(&mut self, time: u64, frame: &Frame, hearing: Hearing, held: &Held) {
+        let answer = match hearing {
+            Hearing::Taken => "ok".to_string(),
+            Hearing::NotAccepted => "refused 13".to_string(),
+            Hearing::ReadFailed(parameter, status) => {
+                format!("refused 14 {parameter:04X} {status:02X}")
+            }
+        };
+        if hearing != Hearing::NotAccepted {
+            self.clock = time;
+        }
+        self.say(frame.event(time), vec![answer]);
+        self.look(held);
+    }
+
+    fn begin(&mut self, event: String, woke: bool) {
+        self.act = Some(Act {
+            event,
+            woke,
+            frames: Vec::new(),
+        });
+    }
+
+    /// Writes the act that ends here.
+    fn finish(&mut self, time: u64, end: End, held: &Held) {
+        let Some(act) = self.act.take() else { return };
+        if self.goes_on(&act, end) && !self.detail.polls {
+            return;
+        }
+        let refused_start = !act.woke && act.frames.is_empty();
+        let mut event = act.event;
+        let mut frames = act.frames.into_iter().peekable();
+        let mut said = false;
+        while let Some(frame) = frames.next() {
+            let last = frames.peek().is_none();
+            let answer = with_frame(time, end, last);
+            said = last && !refuses(end);
+            let due = if said { due_of(end) } else { Some(time) };
+            let answers = vec![frame.candump(time), answer];
+            self.answer(time, event, answers, due, held);
+            event = step(self.log.motor, time);
+        }
+        if said {
+            return;
+        }
+        if refused_start {
+            self.running = None;
+            self.say(event, vec![alone(end)]);
+            self.look(held);
+        } else {
+            self.answer(time, event, vec![alone(end)], due_of(end), held);
+        }
+    }
+
+    /// Whether the Rust polled, and waits on as before.
+    fn goes_on(&self, act: &Act, end: End) -> bool {
+        let before = self.running.as_ref().map(|running| running.due);
+        let End::Waits { why, due } = end else {
+            return false;
+        };
+        why == Why::Poll && act.woke && act.frames.is_empty() && before == Some(due)
+    }
+
+    /// A start or step that was taken: it moves the clock, and the command runs on if there is a due
+    /// time.
+    fn answer(
+        &mut self,
+        time: u64,
+        event: String,
+        answers: Vec<String>,
+        due: Option<u64>,
+        held: &Held,
+    ) {
+        self.clock = time;
+        self.running = match (self.running.take(), due) {
+            (Some(running), Some(due)) => Some(Running { due, ..running }),
+            _ => None,
+        };
+        self.say(event, answers);
+        self.look(held);
+    }
+
+    fn say(&mut self, event: String, answers: Vec<String>) {
+        self.exchanges.push(Exchange { event, answers });
+    }
+
+    fn look(&mut self, held: &Held) {
+        if !self.detail.looks {
+            return;
+        }
+        let log = self.log;
+        let running = match &self.running {
+            Some(running) => format!("running {} due {}", running.name, running.due),
+            None => "running none".to_string(),
+        };
+        let mut answers = vec![
+            format!(
+                "motor {:02X} {:02X} {} {}",
+                log.motor, log.host, log.model, log.write_wait
+            ),
+            format!("clock {}", self.clock),
+        ];
+        answers.extend(held.lines());
+        answers.push(running);
+        answers.extend(held.readings());
+        answers.push("end".to_string());
+        self.say(format!("look {}", log.motor), answers);
+    }
+}
+
+fn step(motor: u16, time: u64) -> String {
+    format!("step {motor} {time}")
+}
+
+fn refuses(end: End) -> bool {
+    matches!(end, End::Ended(Err(_)))
+}
+
+fn due_of(end: End) -> Option<u64> {
+    match end {
+        End::Waits { due, .. } => Some(due),
+        End::Ended(_) => None,
+    }
+}
+
+/// The answer beside a frame: what follows at once is due at the same time, a refusal too.
+fn with_frame(time: u64, end: End, last: bool) -> String {
+    match end {
+        End::Waits { due, .. } if last => format!("sent due {due}"),
+        End::Ended(Ok(given)) if last => finished(given),
+        _ => format!("sent due {time}"),
+    }
+}
+
+/// The answer without a frame.
+fn alone(end: End) -> String {
+    match end {
+        End::Waits { due, .. } => format!("waiting due {due}"),
+        End::Ended(Ok(given)) => finished(given),
+        End::Ended(Err(refusal)) => refusal.text(),
+    }
+}
+
+fn finished(given: Given) -> String {
+    format!("finished {}", given.text())
+}
