@@ -6,7 +6,7 @@
 use crate::command::Given;
 use crate::frame::Frame;
 use crate::held::Held;
-use crate::log::{Entry, Hearing, Log, What, Why};
+use crate::log::{Entry, Hearing, Log, Waiting, What, Why};
 use crate::refusal::Refusal;
 
 /// How many readings a motor holds in document 01; the Rust has no such bound.
@@ -15,7 +15,7 @@ const MOST_READINGS: usize = 96;
 /// What a session has beside starts, frames and the steps that matter.
 #[derive(Clone, Copy, Debug, PartialEq, Eq)]
 pub struct Detail {
-    /// A step also where the Rust polled and went on waiting as before.
+    /// A step also where the Rust polled, with no frame heard since its last look, and went on waiting.
     pub polls: bool,
     /// A look after each event.
     pub looks: bool,
@@ -74,8 +74,15 @@ struct Act {
 /// How an act ends.
 #[derive(Clone, Copy)]
 enum End {
-    Waits { why: Why, due: u64 },
+    /// It waits, and is due at this time.
+    Due(u64),
     Ended(Result<Given, Refusal>),
+}
+
+/// An answer to a start or step.
+struct Said {
+    frame: Option<Frame>,
+    end: End,
 }
 
 /// A running command: its name and its next due time.
@@ -91,6 +98,8 @@ struct Writer<'a> {
     act: Option<Act>,
     running: Option<Running>,
     clock: u64,
+    /// Whether a frame was heard since the last start or step.
+    heard: bool,
 }
 
 impl<'a> Writer<'a> {
@@ -102,6 +111,7 @@ impl<'a> Writer<'a> {
             act: None,
             running: None,
             clock: 0,
+            heard: false,
         }
     }
 
@@ -120,10 +130,7 @@ impl<'a> Writer<'a> {
                     act.frames.push(*frame);
                 }
             }
-            What::Waits(waiting) => {
-                let (why, due) = (waiting.why, waiting.due);
-                self.finish(time, End::Waits { why, due }, &waiting.held);
-            }
+            What::Waits(waiting) => self.waits(time, waiting),
             What::Ended(result, held) => self.finish(time, End::Ended(*result), held),
             What::Heard(frame, hearing, held) => self.heard(time, frame, *hearing, held),
         }
@@ -156,6 +163,7 @@ impl<'a> Writer<'a> {
         if hearing != Hearing::NotAccepted {
             self.clock = time;
         }
+        self.heard = true;
         self.say(frame.event(time), vec![answer]);
         self.look(held);
     }
@@ -168,63 +176,44 @@ impl<'a> Writer<'a> {
         });
     }
 
+    fn waits(&mut self, time: u64, waiting: &Waiting) {
+        if waiting.why == Why::Poll && self.goes_on(waiting.due) && !self.detail.polls {
+            self.act = None;
+        } else {
+            self.finish(time, End::Due(waiting.due), &waiting.held);
+        }
+    }
+
+    /// Whether the Rust only woke, heard nothing, and waits on as before.
+    fn goes_on(&self, due: u64) -> bool {
+        let before = self.running.as_ref().map(|running| running.due);
+        let idle = |act: &Act| act.woke && act.frames.is_empty();
+        self.act.as_ref().is_some_and(idle) && before == Some(due) && !self.heard
+    }
+
     /// Writes the act that ends here.
     fn finish(&mut self, time: u64, end: End, held: &Held) {
         let Some(act) = self.act.take() else { return };
-        if self.goes_on(&act, end) && !self.detail.polls {
-            return;
-        }
-        let refused_start = !act.woke && act.frames.is_empty();
+        self.heard = false;
+        let taken = act.woke || !act.frames.is_empty();
         let mut event = act.event;
-        let mut frames = act.frames.into_iter().peekable();
-        let mut said = false;
-        while let Some(frame) = frames.next() {
-            let last = frames.peek().is_none();
-            let answer = with_frame(time, end, last);
-            said = last && !refuses(end);
-            let due = if said { due_of(end) } else { Some(time) };
-            let answers = vec![frame.candump(time), answer];
-            self.answer(time, event, answers, due, held);
+        for said in in_steps(&act.frames, time, end) {
+            if taken {
+                self.clock = time;
+            }
+            self.runs_on(said.end);
+            self.say(event, said.lines(time));
+            self.look(held);
             event = step(self.log.motor, time);
         }
-        if said {
-            return;
-        }
-        if refused_start {
-            self.running = None;
-            self.say(event, vec![alone(end)]);
-            self.look(held);
-        } else {
-            self.answer(time, event, vec![alone(end)], due_of(end), held);
-        }
     }
 
-    /// Whether the Rust polled, and waits on as before.
-    fn goes_on(&self, act: &Act, end: End) -> bool {
-        let before = self.running.as_ref().map(|running| running.due);
-        let End::Waits { why, due } = end else {
-            return false;
-        };
-        why == Why::Poll && act.woke && act.frames.is_empty() && before == Some(due)
-    }
-
-    /// A start or step that was taken: it moves the clock, and the command runs on if there is a due
-    /// time.
-    fn answer(
-        &mut self,
-        time: u64,
-        event: String,
-        answers: Vec<String>,
-        due: Option<u64>,
-        held: &Held,
-    ) {
-        self.clock = time;
-        self.running = match (self.running.take(), due) {
-            (Some(running), Some(due)) => Some(Running { due, ..running }),
-            _ => None,
-        };
-        self.say(event, answers);
-        self.look(held);
+    /// The command runs on to its due time, or is over.
+    fn runs_on(&mut self, end: End) {
+        match (end, &mut self.running) {
+            (End::Due(due), Some(running)) => running.due = due,
+            _ => self.running = None,
+        }
     }
 
     fn say(&mut self, event: String, answers: Vec<String>) {
@@ -259,35 +248,30 @@ fn step(motor: u16, time: u64) -> String {
     format!("step {motor} {time}")
 }
 
-fn refuses(end: End) -> bool {
-    matches!(end, End::Ended(Err(_)))
-}
-
-fn due_of(end: End) -> Option<u64> {
-    match end {
-        End::Waits { due, .. } => Some(due),
-        End::Ended(_) => None,
+/// The answers to one act: a frame each, and the end with the last frame or alone. A refusal stands
+/// alone. What follows a frame at once is due at its time.
+fn in_steps(frames: &[Frame], time: u64, end: End) -> Vec<Said> {
+    let sent = |frame: &Frame| Said {
+        frame: Some(*frame),
+        end: End::Due(time),
+    };
+    let mut steps: Vec<Said> = frames.iter().map(sent).collect();
+    match (steps.last_mut(), end) {
+        (Some(last), End::Due(_) | End::Ended(Ok(_))) => last.end = end,
+        _ => steps.push(Said { frame: None, end }),
     }
+    steps
 }
 
-/// The answer beside a frame: what follows at once is due at the same time, a refusal too.
-fn with_frame(time: u64, end: End, last: bool) -> String {
-    match end {
-        End::Waits { due, .. } if last => format!("sent due {due}"),
-        End::Ended(Ok(given)) if last => finished(given),
-        _ => format!("sent due {time}"),
+impl Said {
+    fn lines(&self, time: u64) -> Vec<String> {
+        let frame = self.frame.map(|frame| frame.candump(time));
+        let text = match self.end {
+            End::Due(due) if frame.is_some() => format!("sent due {due}"),
+            End::Due(due) => format!("waiting due {due}"),
+            End::Ended(Ok(given)) => format!("finished {}", given.text()),
+            End::Ended(Err(refusal)) => refusal.text(),
+        };
+        frame.into_iter().chain([text]).collect()
     }
-}
-
-/// The answer without a frame.
-fn alone(end: End) -> String {
-    match end {
-        End::Waits { due, .. } => format!("waiting due {due}"),
-        End::Ended(Ok(given)) => finished(given),
-        End::Ended(Err(refusal)) => refusal.text(),
-    }
-}
-
-fn finished(given: Given) -> String {
-    format!("finished {}", given.text())
 }

@@ -76,6 +76,28 @@ fn polls_as_steps() {
     assert_eq!(exchanges[181].answers, ["refused 16"]);
 }
 
+/// A frame that doesn't acknowledge has its step all the same, at the next poll.
+#[test]
+fn a_step_after_each_frame() {
+    let fault = Frame::heard(0x1500_01FD, [0; 8]);
+    assert_pairs(
+        asked(0, Command::Disable)
+            .frame(121, fault)
+            .frame(150, status()),
+        &[
+            ("register 1 0xFD rs-00 0 100", "ok"),
+            (
+                "start 1 100 disable",
+                "(0.100000) can0 0400FD01#0000000000000000 | sent due 340",
+            ),
+            ("(0.121000) can0 150001FD#0000000000000000", "ok"),
+            ("step 1 124", "waiting due 340"),
+            ("(0.150000) can0 028001FD#7FFF7FFF7FFF00FA", "ok"),
+            ("step 1 152", "finished none"),
+        ],
+    );
+}
+
 /// With write wait 0 several frames come in one go: each further one has a step of its own.
 #[test]
 fn frames_in_one_go() {
