@@ -1,0 +1,9 @@
+pub mod Places
+pub mod Steps
+pub mod TwoRuns
+pub mod Index
+pub mod Meanings
+pub mod Clauses
+pub mod Refused
+pub mod Promised
+pub mod Unchanged

@@ -1,0 +1,234 @@
+-- Demand 1 over the functions' own contracts: refused by a number other than 14 to 18 and 20, a call returns the station that it was
+-- given, the same value. Assumes nothing.
+use Prim.Native.Nat.{ℕ, zero, suc}
+use mathlib.Core.Path.{_≡_, refl, sym, ap, _∙_, subst}
+use mathlib.Core.Bool.{Bool, true, false, true≢false, cond, or-true, _||_}
+use mathlib.Core.List.{List, [], _∷_}
+use lib.Dec.{eqb, ltb}
+use lib.ListN.{getD, set}
+use Rattle.codec.specs.declared.bus.CanFrame.{CanFrame}
+use Rattle.codec.specs.declared.error.Checked.{Checked}
+use Rattle.codec.specs.declared.error.Checked.the-variants as checked
+use Rattle.codec.specs.declared.error.Refusal.{Refusal}
+use Rattle.codec.specs.declared.error.Refusal.the-variants as refusal
+use Rattle.codec.specs.declared.model.Model.{Model}
+use Rattle.codec.specs.declared.model.ModelNamed.{ModelNamed}
+use Rattle.codec.specs.Kinds.{among}
+use Rattle.codec.specs.Refusals.{numberOf}
+use Rattle.engine.specs.declared.command.Command.{Command}
+use Rattle.engine.specs.declared.command.Said.{Said}
+use Rattle.engine.specs.declared.command.Said.the-variants as said
+use Rattle.engine.specs.declared.operation.Effect.{Effect}
+use Rattle.engine.specs.declared.operation.Operation.{Operation}
+use Rattle.engine.specs.Run.{advance, begin}
+use Rattle.motor.specs.declared.motor.Answered.{Answered}
+use Rattle.motor.specs.declared.motor.Motor.{Motor}
+use Rattle.motor.specs.declared.readings.Readings.{Readings}
+use Rattle.motor.specs.declared.receive.Heard.{Heard}
+use Rattle.motor.specs.declared.registration.Admission.{Admission}
+use Rattle.motor.specs.declared.registration.Admission.the-variants as admission
+use Rattle.motor.specs.Calls.{sightOf, wanted, isIdle, admittedOf, arguedOf, startSaid, stepSaid, registrationOf}
+use Rattle.motor.specs.Motors.{newMotor, startBy, startOf, stepBy, stepOf, removalOf}
+use Rattle.motor.specs.Readings.{findOf, putOf}
+use Rattle.motor.specs.Receive.{accepts, late, readId, readStored, frameSaid, stateAfter, readingsAfter, isFull, heardOf}
+use Rattle.motor.proofs.Ends.{Closed, begin-ends, advance-ends}
+use Rattle.motor.proofs.Stays.{movesBy, moves, heardMoves, argued-passed, running}
+use Rattle.station.specs.declared.station.Station.{Station}
+use Rattle.station.specs.declared.station.Moved.{Moved}
+use Rattle.station.specs.declared.station.Told.{Told}
+use Rattle.station.specs.Calls.{says, answered}
+use Rattle.station.specs.Station.{source}
+use Rattle.station.specs.Stations.{freeMotor, indexOf, takenPlace, motorAt, withMotor, atPlace, told, movedAt, unmoved, heardAt, removedAt, enteredIn, admittedIn, registerBy, registerIn, startIn, stepIn, frameIn, removeIn}
+use Rattle.station.specs.Demands.{stillBy, still}
+use Rattle.station.proofs.Promised.{Request, registering, starting, stepping, receiving, looking, removing}
+use Rattle.station.proofs.Promised.{Out, moved, looked, answerIn, next, Gives}
+use Rattle.station.proofs.Promised.{told as tells}
+use Rattle.station.proofs.Refused.{not-true, said-moves}
+
+-- ---- a motor refused by such a number is the same value
+
+ends-moves : (s : Said) (op : Operation) (e : Effect) → Closed s op e → moves s ≡ true
+unfolding among
+ends-moves (said.Sent due) op e h = refl
+ends-moves (said.Waiting due) op e h = refl
+ends-moves (said.Finished r) op e h = refl
+ends-moves (said.FinishedWith r) op e h = refl
+ends-moves (said.Refused r) op e h = rw (h .0, or-true, or-true)
+
+start-kept : (y : Motor) (c : Command) (now : ℕ) → moves (startOf y c now .said) ≡ false → startOf y c now .motor ≡ y
+start-kept y c now = go (startSaid (y .state .clock) (y .state .operation .phase) c now) refl
+  where
+    go : (k : Checked) → startSaid (y .state .clock) (y .state .operation .phase) c now ≡ k → moves (startBy k y c now .said) ≡ false
+        → startBy k y c now .motor ≡ y
+    go checked.Passed e q =
+        let v = begin (sightOf (y .state)) now c in
+        let h = begin-ends (sightOf (y .state)) now c (argued-passed (admittedOf (y .state .clock) (y .state .operation .phase) c now) (arguedOf c) e) in
+        absurd (true≢false (sym (ends-moves (v .said) (v .operation) (v .effect) h) ∙ q))
+    go (checked.Refused r) e q = refl
+
+step-kept : (y : Motor) (now : ℕ) → moves (stepOf y now .said) ≡ false → stepOf y now .motor ≡ y
+step-kept y now = go (stepSaid (y .state .clock) (y .state .operation .phase) now) refl
+  where
+    go : (k : Checked) → stepSaid (y .state .clock) (y .state .operation .phase) now ≡ k → moves (stepBy k y now .said) ≡ false
+        → stepBy k y now .motor ≡ y
+    go checked.Passed e q =
+        let op = y .state .operation in
+        let f = wanted (op .phase) (λ id. findOf (y .readings) id) in
+        let v = advance (sightOf (y .state)) now op f (op .phase) in
+        let h = advance-ends (sightOf (y .state)) now op f (op .phase) (running (late (y .state .clock) now) (isIdle (op .phase)) e) in
+        absurd (true≢false (sym (ends-moves (v .said) (v .operation) (v .effect) h) ∙ q))
+    go (checked.Refused r) e q = refl
+
+-- 14 and 15 are two of those numbers
+fewer : (n : ℕ) → among n (14 ∷ 15 ∷ 16 ∷ 17 ∷ 18 ∷ 20 ∷ []) ≡ false → among n (14 ∷ 15 ∷ []) ≡ false
+unfolding among
+fewer n e = go (eqb 14 n) (eqb 15 n) (among n (16 ∷ 17 ∷ 18 ∷ 20 ∷ [])) e
+  where
+    go : (a b c : Bool) → a || (b || c) ≡ false → a || (b || false) ≡ false
+    go true b c e = e
+    go false true c e = e
+    go false false c e = refl
+
+heard-kept : (y : Motor) (f : CanFrame) (now : ℕ) → heardMoves (heardOf y f now .said) ≡ false → heardOf y f now .motor ≡ y
+unfolding heardOf stateAfter readingsAfter
+heard-kept y f now =
+    let put = putOf (y .readings) (readId f) (readStored f) in
+    go (frameSaid (y .state) f now (isFull (put .said))) (put .readings)
+  where
+    go : (k : Checked) (new : Readings) → heardMoves k ≡ false
+        → _≡_ {A = Motor} (record { state = stateAfter k (y .state) f now; readings = readingsAfter k f new (y .readings) }) y
+    go checked.Passed new q = absurd (true≢false q)
+    go (checked.Refused r) new q = rw (fewer (numberOf r) q)
+
+-- ---- put back, it leaves the station the same value
+
+set-same : (xs : List Motor) (i : ℕ) (d : Motor) → set xs i (getD xs i d) ≡ xs
+set-same [] i d = refl
+set-same (x ∷ xs) zero d = refl
+set-same (x ∷ xs) (suc i) d = ap {B = List Motor} (λ l. x ∷ l) (set-same xs i d)
+
+put-back : (st : Station) (i : ℕ) (y : Motor) → y ≡ motorAt st i → withMotor st i y ≡ st
+put-back st i y e =
+    ap {B = Station} (λ (l : List Motor). record { motors = l }) (ap (λ (m : Motor). set (st .motors) i m) e ∙ set-same (st .motors) i freeMotor)
+
+-- ---- the six calls
+
+-- refused by such a number, st comes back
+abbrev MovedStill : Station → Moved → Type 0
+MovedStill st r = still (says (r .said) (r .frame) (r .result)) ≡ true → r .station ≡ st
+
+abbrev ToldStill : Station → Told → Type 0
+ToldStill st r = still (answered (r .said)) ≡ true → r .station ≡ st
+
+either : {A : Type 0} (P : A → Type 0) (b : Bool) (x y : A) → P x → P y → P (cond b x y)
+either P true x y p q = p
+either P false x y p q = q
+
+at-place : {A : Type 0} (P : A → Type 0) (st : Station) (id : ℕ) (found : ℕ → A) (none : A) → ((i : ℕ) → P (found i)) → P none → P (atPlace st id found none)
+unfolding atPlace
+at-place P st id found none p q =
+    either P (ltb (takenPlace (st .motors) id) 8) (found (takenPlace (st .motors) id)) none (p (takenPlace (st .motors) id)) q
+
+refused-still : (st : Station) (r : Refusal) → ToldStill st (told st (checked.Refused r))
+refused-still st r e = refl
+
+passed-still : (st after : Station) → ToldStill st (told after checked.Passed)
+unfolding still answered
+passed-still st after e = absurd (true≢false (sym e))
+
+moved-still : (st : Station) (i : ℕ) (a : Answered) → (moves (a .said) ≡ false → a .motor ≡ motorAt st i) → MovedStill st (movedAt st i a)
+moved-still st i a same e = put-back st i (a .motor) (same (said-moves (a .said) (a .frame) (a .result) e))
+
+heard-still : (st : Station) (i : ℕ) (h : Heard) → (heardMoves (h .said) ≡ false → h .motor ≡ motorAt st i) → ToldStill st (heardAt st i h)
+unfolding still stillBy answered
+heard-still st i h same e = put-back st i (h .motor) (same (go (h .said) e))
+  where
+    go : (w : Checked) → still (answered w) ≡ true → heardMoves w ≡ false
+    go checked.Passed e = absurd (true≢false (sym e))
+    go (checked.Refused r) e = not-true (movesBy r) e
+
+start-still : (st : Station) (id : ℕ) (c : Command) (now : ℕ) → MovedStill st (startIn st id c now)
+unfolding startIn
+start-still st id c now =
+    at-place (MovedStill st) st id (λ i. movedAt st i (startOf (motorAt st i) c now)) (unmoved st)
+    (λ i. moved-still st i (startOf (motorAt st i) c now) (start-kept (motorAt st i) c now))
+    (λ e. refl)
+
+step-still : (st : Station) (id now : ℕ) → MovedStill st (stepIn st id now)
+unfolding stepIn
+step-still st id now =
+    at-place (MovedStill st) st id (λ i. movedAt st i (stepOf (motorAt st i) now)) (unmoved st)
+    (λ i. moved-still st i (stepOf (motorAt st i) now) (step-kept (motorAt st i) now))
+    (λ e. refl)
+
+frame-still : (st : Station) (f : CanFrame) (now : ℕ) → ToldStill st (frameIn st f now)
+unfolding frameIn
+frame-still st f now =
+    let other = told st (checked.Refused refusal.FrameNotAccepted) in
+    either (ToldStill st) (accepts (source f) f) (atPlace st (source f) (λ i. heardAt st i (heardOf (motorAt st i) f now)) other) other
+    (at-place (ToldStill st) st (source f) (λ i. heardAt st i (heardOf (motorAt st i) f now)) other
+    (λ i. heard-still st i (heardOf (motorAt st i) f now) (heard-kept (motorAt st i) f now))
+    (refused-still st refusal.FrameNotAccepted))
+    (refused-still st refusal.FrameNotAccepted)
+
+removed-still : (k : Checked) (st : Station) (i : ℕ) → ToldStill st (removedAt k st i)
+removed-still checked.Passed st i = passed-still st (withMotor st i freeMotor)
+removed-still (checked.Refused r) st i = refused-still st r
+
+remove-still : (st : Station) (id now : ℕ) → ToldStill st (removeIn st id now)
+unfolding removeIn
+remove-still st id now =
+    at-place (ToldStill st) st id (λ i. removedAt (removalOf (motorAt st i) now) st i) (told st (checked.Refused refusal.IdNotRegistered))
+    (λ i. removed-still (removalOf (motorAt st i) now) st i)
+    (refused-still st refusal.IdNotRegistered)
+
+entered-still : (st : Station) (m : Motor) → ToldStill st (enteredIn st m)
+unfolding enteredIn
+entered-still st m =
+    either (ToldStill st) (ltb (indexOf (st .motors) 0) 8) (told (withMotor st (indexOf (st .motors) 0) m) checked.Passed) (told st (checked.Refused refusal.StationFull))
+    (passed-still st (withMotor st (indexOf (st .motors) 0) m))
+    (refused-still st refusal.StationFull)
+
+admitted-still : (st : Station) (id host : ℕ) (model : Model) (wait time : ℕ) → ToldStill st (admittedIn st id host model wait time)
+unfolding admittedIn
+admitted-still st id host model wait time =
+    at-place (ToldStill st) st id (λ i. told st (checked.Refused refusal.IdRegistered)) (enteredIn st (newMotor id host model wait time))
+    (λ i. refused-still st refusal.IdRegistered)
+    (entered-still st (newMotor id host model wait time))
+
+registered-still : (k : Admission) (st : Station) (id host wait time : ℕ) → ToldStill st (registerBy k st id host wait time)
+registered-still (admission.Admitted model) st id host wait time = admitted-still st id host model wait time
+registered-still (admission.Refused r) st id host wait time = refused-still st r
+
+register-still : (st : Station) (id host : ℕ) (model : ModelNamed) (wait time : ℕ) → ToldStill st (registerIn st id host model wait time)
+unfolding registerIn
+register-still st id host model wait time = registered-still (registrationOf id host model wait time) st id host wait time
+
+-- ---- by the contracts
+
+pub record CodeDemand1 : Type 0 where
+  pub refused : (st : Station) (q : Request) (o : Out) → Gives st q o → still (answerIn o) ≡ true → next st o ≡ st
+
+code-refused : (st : Station) (q : Request) (o : Out) → Gives st q o → still (answerIn o) ≡ true → next st o ≡ st
+unfolding answerIn next
+code-refused st (registering κ m h n w t) (moved r) g = absurd g
+code-refused st (registering κ m h n w t) (tells r) g = subst (ToldStill st) (sym (g .0)) (register-still st m h _ w t)
+code-refused st (registering κ m h n w t) (looked r) g = absurd g
+code-refused st (starting m c t) (moved r) g = subst (MovedStill st) (sym (g .0)) (start-still st m c t)
+code-refused st (starting m c t) (tells r) g = absurd g
+code-refused st (starting m c t) (looked r) g = absurd g
+code-refused st (stepping m t) (moved r) g = subst (MovedStill st) (sym (g .0)) (step-still st m t)
+code-refused st (stepping m t) (tells r) g = absurd g
+code-refused st (stepping m t) (looked r) g = absurd g
+code-refused st (receiving f t) (moved r) g = absurd g
+code-refused st (receiving f t) (tells r) g = subst (ToldStill st) (sym (g .0)) (frame-still st f t)
+code-refused st (receiving f t) (looked r) g = absurd g
+code-refused st (looking m) (moved r) g = absurd g
+code-refused st (looking m) (tells r) g = absurd g
+code-refused st (looking m) (looked r) g = λ e. refl
+code-refused st (removing m t) (moved r) g = absurd g
+code-refused st (removing m t) (tells r) g = subst (ToldStill st) (sym (g .0)) (remove-still st m t)
+code-refused st (removing m t) (looked r) g = absurd g
+
+pub code-demand1 : CodeDemand1
+code-demand1 = record { refused = code-refused }

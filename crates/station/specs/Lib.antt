@@ -1,0 +1,5 @@
+pub mod Calls
+pub mod Station
+pub mod Stations
+pub mod History
+pub mod Demands

@@ -1,0 +1,125 @@
+-- The station over places that hold lone motors, and the lone motor's answers. Definitions only.
+use Prim.Native.Nat.{ℕ, _%_}
+use mathlib.Core.Path.{_≡_}
+use mathlib.Core.Bool.{Bool, true, false, cond}
+use mathlib.Core.List.{List, [], _∷_, _++_}
+use mathlib.Core.Option.{Option, none, some}
+use lib.Dec.{eqb}
+use lib.ListN.{replicate}
+use Rattle.codec.specs.declared.bus.CanFrame.{CanFrame}
+use Rattle.codec.specs.declared.error.Checked.{Checked}
+use Rattle.codec.specs.declared.error.Checked.the-variants as checked
+use Rattle.codec.specs.declared.error.Refusal.{Refusal}
+use Rattle.codec.specs.declared.error.Refusal.the-variants as refusal
+use Rattle.codec.specs.declared.model.ModelNamed.{ModelNamed}
+use Rattle.codec.specs.declared.model.ModelNamed.the-variants as named
+use Rattle.motor.specs.Calls.{registerNumbers}
+use Rattle.motor.specs.Lone.{Lone, LoneAnswered, LoneHeard, loneNew, loneAgain, loneStart, loneStep, hears, loneLook, loneRemoval}
+use Rattle.motor.specs.Numbers.{firstOf}
+use Rattle.motor.specs.Receive.{frameExtra, accepts}
+use Rattle.station.specs.Calls.{Call, register, start, step, frame, look, remove}
+use Rattle.station.specs.Calls.{Answer, ok, no, says, shows, answered, refuses}
+
+-- ---- places
+
+-- a place is free, or taken by a motor: its id, and what is held for it
+pub data Place : Type 0 where
+  free : Place
+  taken : ℕ → Lone → Place
+
+-- a fresh station has no motor
+unfoldable pub empty : List Place
+empty = replicate 8 free
+
+-- what is held for the id; none where it isn't registered
+unfoldable pub held : List Place → ℕ → Option Lone
+held [] m = none
+held (free ∷ s) m = held s m
+held (taken i h ∷ s) m = cond (eqb i m) (some h) (held s m)
+
+unfoldable pub isSome : Option Lone → Bool
+isSome none = false
+isSome (some h) = true
+
+-- 8 motors registered
+unfoldable pub full : List Place → Bool
+full [] = true
+full (free ∷ s) = false
+full (taken i h ∷ s) = full s
+
+-- the first free place taken
+unfoldable pub add : List Place → ℕ → Lone → List Place
+add [] m h = []
+add (free ∷ s) m h = taken m h ∷ s
+add (taken i k ∷ s) m h = taken i k ∷ add s m h
+
+unfoldable pub place : ℕ → Option Lone → Place
+place m none = free
+place m (some h) = taken m h
+
+-- what is held for the id replaced; with none its place is free
+unfoldable pub put : List Place → ℕ → Option Lone → List Place
+put [] m o = []
+put (free ∷ s) m o = free ∷ put s m o
+put (taken i h ∷ s) m o = cond (eqb i m) (place i o ∷ s) (taken i h ∷ put s m o)
+
+-- the ids differ
+abbrev pub Distinct : List Place → Type 0
+Distinct [] = Unit {0}
+Distinct (free ∷ s) = Distinct s
+Distinct (taken i h ∷ s) = (held s i ≡ none) × Distinct s
+
+-- ---- the lone motor: what it answers, and what it holds afterwards; none once it is removed
+
+unfoldable pub movesTo : LoneAnswered → Answer × Option Lone
+movesTo a = (says (a .said) (a .frame) (a .result), some (a .lone))
+
+unfoldable pub hearsTo : LoneHeard → Answer × Option Lone
+hearsTo h = (answered (h .said), some (h .lone))
+
+unfoldable pub leaves : Lone → Checked → Option Lone
+leaves h checked.Passed = none
+leaves h (checked.Refused r) = some h
+
+unfoldable pub lone : Lone → Call → Answer × Option Lone
+lone h (register m host model wait time) = (answered (loneAgain m host model wait time), some h)
+lone h (start m c now) = movesTo (loneStart h c now)
+lone h (step m now) = movesTo (loneStep h now)
+lone h (frame f now) = hearsTo (hears h f now)
+lone h (look m) = (shows (loneLook h), some h)
+lone h (remove m now) = (answered (loneRemoval h now), leaves h (loneRemoval h now))
+
+-- ---- the station
+
+-- a call goes to what is held for the motor m, and is refused where nothing is
+unfoldable pub route : List Place → ℕ → Option Lone → Refusal → Call → Answer × List Place
+route s m none n c = (refuses c n, s)
+route s m (some h) n c = ((lone h c) .0, put s m ((lone h c) .1))
+
+-- Register: 1, 2, 3, 9, 7, 5, 4
+unfoldable pub admission : List Place → ℕ → ℕ → ModelNamed → ℕ → ℕ → Checked
+admission s m host model wait time =
+    firstOf (registerNumbers m host model wait time ++ ((isSome (held s m), refusal.IdRegistered) ∷ (full s, refusal.StationFull) ∷ []))
+
+-- passed, the model is known: 3 comes before
+unfoldable pub enter : List Place → ℕ → ℕ → ModelNamed → ℕ → ℕ → Answer × List Place
+enter s m host (named.Known model) wait time = (ok, add s m (loneNew m host model wait time))
+enter s m host named.Unknown wait time = (no refusal.UnknownModel, s)
+
+unfoldable pub admit : Checked → List Place → ℕ → ℕ → ModelNamed → ℕ → ℕ → Answer × List Place
+admit checked.Passed s m host model wait time = enter s m host model wait time
+admit (checked.Refused r) s m host model wait time = (no r, s)
+
+-- the motor that a frame comes from: the low byte of the extra field
+unfoldable pub source : CanFrame → ℕ
+source f = frameExtra f % 256
+
+-- Start, step, look and remove: 6, then the motor's numbers. Frame: 13, then the motor's.
+unfoldable pub stationCall : List Place → Call → Answer × List Place
+stationCall s (register m host model wait time) = admit (admission s m host model wait time) s m host model wait time
+stationCall s (start m c now) = route s m (held s m) refusal.IdNotRegistered (start m c now)
+stationCall s (step m now) = route s m (held s m) refusal.IdNotRegistered (step m now)
+stationCall s (frame f now) =
+    cond (accepts (source f) f) (route s (source f) (held s (source f)) refusal.FrameNotAccepted (frame f now)) (no refusal.FrameNotAccepted, s)
+stationCall s (look m) = route s m (held s m) refusal.IdNotRegistered (look m)
+stationCall s (remove m now) = route s m (held s m) refusal.IdNotRegistered (remove m now)

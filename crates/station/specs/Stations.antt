@@ -1,0 +1,160 @@
+-- What the station's functions give on any station, and what it is for a station to be document 01's. Definitions only.
+use Prim.Native.Nat.{ℕ, zero, suc}
+use mathlib.Core.Path.{_≡_}
+use mathlib.Core.Bool.{cond}
+use mathlib.Core.List.{List, [], _∷_}
+use lib.Dec.{eqb, ltb}
+use lib.ListN.{length, getD, set, replicate}
+use Rattle.codec.specs.declared.bus.CanFrame.{CanFrame}
+use Rattle.codec.specs.declared.error.Checked.{Checked}
+use Rattle.codec.specs.declared.error.Checked.the-variants as checked
+use Rattle.codec.specs.declared.error.Refusal.the-variants as refusal
+use Rattle.codec.specs.declared.model.Model.{Model}
+use Rattle.codec.specs.declared.model.Model.the-variants as models
+use Rattle.codec.specs.declared.model.ModelNamed.{ModelNamed}
+use Rattle.codec.specs.Replies.{zeros}
+use Rattle.engine.specs.declared.command.Command.{Command}
+use Rattle.engine.specs.declared.command.Said.the-variants as said
+use Rattle.engine.specs.Requests.{noFrame}
+use Rattle.motor.specs.declared.motor.Answered.{Answered}
+use Rattle.motor.specs.declared.motor.Motor.{Motor}
+use Rattle.motor.specs.declared.receive.Heard.{Heard}
+use Rattle.motor.specs.declared.registration.Admission.{Admission}
+use Rattle.motor.specs.declared.registration.Admission.the-variants as admission
+use Rattle.motor.specs.Calls.{registrationOf}
+use Rattle.motor.specs.Lone.{Lone}
+use Rattle.motor.specs.Motors.{newMotor, startOf, stepOf, lookOf, removalOf}
+use Rattle.motor.specs.Readings.{Holds}
+use Rattle.motor.specs.Receive.{accepts, heardOf}
+use Rattle.station.specs.declared.station.Station.{Station}
+use Rattle.station.specs.declared.station.Moved.{Moved}
+use Rattle.station.specs.declared.station.Told.{Told}
+use Rattle.station.specs.declared.station.Looked.{Looked}
+use Rattle.station.specs.Calls.{Answer, no, says, shows, answered}
+use Rattle.station.specs.Station.{Place, free, taken, source}
+
+-- ---- places
+
+-- the free place: ids are 1 to 255, so the id 0 marks it
+unfoldable pub freeMotor : Motor
+freeMotor = newMotor 0 0 models.Rs00 0 0
+
+unfoldable pub newStation : Station
+newStation = record { motors = replicate 8 freeMotor }
+
+-- the first place of an id, the number of places where there is none
+unfoldable pub indexOf : List Motor → ℕ → ℕ
+indexOf [] id = zero
+indexOf (m ∷ ms) id = cond (eqb (m .state .«motor_id») id) zero (suc (indexOf ms id))
+
+-- the place of a registered id, 8 where it isn't registered
+unfoldable pub takenPlace : List Motor → ℕ → ℕ
+takenPlace ms id = cond (eqb id 0) 8 (indexOf ms id)
+
+abbrev pub motorAt : Station → ℕ → Motor
+motorAt st i = getD (st .motors) i freeMotor
+
+abbrev pub withMotor : Station → ℕ → Motor → Station
+withMotor st i m = record { motors = set (st .motors) i m }
+
+-- what is done at the place of a registered id, else the refusal
+unfoldable pub atPlace : {A : Type 0} → Station → ℕ → (ℕ → A) → A → A
+atPlace st id found none = cond (ltb (takenPlace (st .motors) id) 8) (found (takenPlace (st .motors) id)) none
+
+-- ---- the calls
+
+abbrev pub told : Station → Checked → Told
+told st said = record { station = st; said = said }
+
+abbrev pub movedAt : Station → ℕ → Answered → Moved
+movedAt st i a = record { station = withMotor st i (a .motor); said = a .said; frame = a .frame; result = a .result }
+
+abbrev pub unmoved : Station → Moved
+unmoved st = record { station = st; said = said.Refused refusal.IdNotRegistered; frame = noFrame; result = zeros }
+
+abbrev pub heardAt : Station → ℕ → Heard → Told
+heardAt st i h = told (withMotor st i (h .motor)) (h .said)
+
+abbrev pub removedAt : Checked → Station → ℕ → Told
+removedAt checked.Passed st i = told (withMotor st i freeMotor) checked.Passed
+removedAt (checked.Refused r) st i = told st (checked.Refused r)
+
+-- the first free place is that of the id 0
+unfoldable pub enteredIn : Station → Motor → Told
+enteredIn st m =
+    cond (ltb (indexOf (st .motors) 0) 8)
+    (told (withMotor st (indexOf (st .motors) 0) m) checked.Passed)
+    (told st (checked.Refused refusal.StationFull))
+
+unfoldable pub admittedIn : Station → ℕ → ℕ → Model → ℕ → ℕ → Told
+admittedIn st id host model wait time =
+    atPlace st id (λ i. told st (checked.Refused refusal.IdRegistered)) (enteredIn st (newMotor id host model wait time))
+
+abbrev pub registerBy : Admission → Station → ℕ → ℕ → ℕ → ℕ → Told
+registerBy (admission.Admitted model) st id host wait time = admittedIn st id host model wait time
+registerBy (admission.Refused r) st id host wait time = told st (checked.Refused r)
+
+unfoldable pub registerIn : Station → ℕ → ℕ → ModelNamed → ℕ → ℕ → Told
+registerIn st id host model wait time = registerBy (registrationOf id host model wait time) st id host wait time
+
+unfoldable pub startIn : Station → ℕ → Command → ℕ → Moved
+startIn st id c now = atPlace st id (λ i. movedAt st i (startOf (motorAt st i) c now)) (unmoved st)
+
+unfoldable pub stepIn : Station → ℕ → ℕ → Moved
+stepIn st id now = atPlace st id (λ i. movedAt st i (stepOf (motorAt st i) now)) (unmoved st)
+
+unfoldable pub frameIn : Station → CanFrame → ℕ → Told
+frameIn st f now =
+    let other = told st (checked.Refused refusal.FrameNotAccepted) in
+    cond (accepts (source f) f) (atPlace st (source f) (λ i. heardAt st i (heardOf (motorAt st i) f now)) other) other
+
+unfoldable pub lookIn : Station → ℕ → Looked
+lookIn st id =
+    atPlace st id (λ i. record { said = checked.Passed; seen = lookOf (motorAt st i) })
+    (record { said = checked.Refused refusal.IdNotRegistered; seen = lookOf freeMotor })
+
+unfoldable pub removeIn : Station → ℕ → ℕ → Told
+removeIn st id now =
+    atPlace st id (λ i. removedAt (removalOf (motorAt st i) now) st i) (told st (checked.Refused refusal.IdNotRegistered))
+
+-- ---- a station is document 01's
+
+-- a motor at a taken place: its id, which isn't 0, and what it holds
+pub record TakenAs (m : Motor) (i : ℕ) (h : Lone) : Type 0 where
+  pub id : m .state .«motor_id» ≡ i
+  pub registered : i ≡ 0 → ⊥
+  pub state : m .state ≡ h .state
+  pub readings : Holds (m .readings) (h .readings)
+
+abbrev pub PlaceAs : Motor → Place → Type 0
+PlaceAs m free = m ≡ freeMotor
+PlaceAs m (taken i h) = TakenAs m i h
+
+abbrev pub PlacesAs : List Motor → List Place → Type 0
+PlacesAs [] [] = Unit {0}
+PlacesAs [] (p ∷ s) = ⊥
+PlacesAs (m ∷ ms) [] = ⊥
+PlacesAs (m ∷ ms) (p ∷ s) = PlaceAs m p × PlacesAs ms s
+
+-- st is good, and s is what it holds
+pub record Shows (st : Station) (s : List Place) : Type 0 where
+  pub eight : length (st .motors) ≡ 8
+  pub places : PlacesAs (st .motors) s
+
+-- ---- the functions answer as document 01's station does
+
+-- an answer, and a good station that holds what that one holds
+pub record MovedAs (r : Moved) (a : Answer × List Place) : Type 0 where
+  pub answer : says (r .said) (r .frame) (r .result) ≡ a .0
+  pub station : Shows (r .station) (a .1)
+
+pub record ToldAs (r : Told) (a : Answer × List Place) : Type 0 where
+  pub answer : answered (r .said) ≡ a .0
+  pub station : Shows (r .station) (a .1)
+
+abbrev pub shownBy : Checked → Looked → Answer
+shownBy checked.Passed r = shows (r .seen)
+shownBy (checked.Refused n) r = no n
+
+abbrev pub answerOf : Looked → Answer
+answerOf r = shownBy (r .said) r

@@ -1,0 +1,257 @@
+// The six calls on a station.
+use crate::place::free_motor;
+use crate::place::motor_at;
+use crate::place::place_of;
+use crate::place::replaced;
+use crate::place::taken_place;
+use codec::bus::CanFrame;
+use codec::error::Checked;
+use codec::error::Refusal;
+use codec::model::Model;
+use codec::protocol::ext_id_parts;
+use engine::command::Command;
+use engine::command::Said;
+use engine::requests::no_frame;
+use motor::motor::Answered;
+use motor::motor::Motor;
+use motor::motor::Seen;
+use motor::motor::removal;
+use motor::receive::Heard;
+use motor::receive::accepts_frame;
+use motor::receive::process_feedback_frame;
+use motor::registration::Admission;
+use motor::registration::registration;
+ghost use mathlib.Core.Path.{_≡_};
+ghost use mathlib.Core.List.{List};
+ghost use Prim.Native.Nat.{_<_};
+ghost use Rattle.codec.specs.Models.{modelNamed};
+ghost use Rattle.station.specs.Calls as call;
+ghost use Rattle.station.specs.Station.{Place, source, empty, stationCall};
+ghost use Rattle.station.specs.Stations.{newStation, withMotor, told, movedAt, unmoved, heardAt, removedAt, admittedIn, registerIn, startIn, stepIn, frameIn, lookIn, removeIn};
+ghost use Rattle.station.specs.Stations.{Shows, MovedAs, ToldAs, answerOf};
+
+// Eight places, each free or taken by a motor.
+pub struct Station {
+    pub motors: [Motor; 8],
+}
+
+// What a start or a step answers, and the station after it.
+pub struct Moved {
+    pub station: Station,
+    pub said: Said,
+    pub frame: CanFrame,
+    pub result: [u8; 8],
+}
+
+// What a registration, a frame or a removal answers, and the station after it.
+pub struct Told {
+    pub station: Station,
+    pub said: Checked,
+}
+
+// What a look answers: all that the motor holds; refused, what a free place holds.
+pub struct Looked {
+    pub said: Checked,
+    pub seen: Seen,
+}
+
+// A station with no motor.
+pub fn new() -> Station
+    ensures is { λ r. ⌜ r ≡ newStation ⌝ }
+    ensures means { λ r. ⌜ Shows r empty ⌝ }
+{
+    let m = free_motor();
+    let motors = [m; 8];
+    Station { motors }
+}
+
+// One place replaced. Every call that changes a station does it by this.
+fn with_motor(st: Station, i: usize, m: Motor) -> Station
+    requires { ⌜ i < 8 ⌝ }
+    ensures { λ r. ⌜ r ≡ withMotor st i m ⌝ }
+{
+    let motors = st.motors;
+    let motors = replaced(motors, i, m);
+    Station { motors }
+}
+
+fn tell(station: Station, said: Checked) -> Told
+    ensures { λ r. ⌜ r ≡ told station said ⌝ }
+{
+    Told { station, said }
+}
+
+// ---- registration: 1, 2, 3, 9, 7, 5, 4
+
+// 5 and 4; else the first free place is taken.
+fn admitted(st: Station, id: u16, host: u16, model: Model, wait: u64, time: u64) -> Told
+    ensures { λ r. ⌜ r ≡ admittedIn st id host model wait time ⌝ }
+{
+    let motors = st.motors;
+    if taken_place(motors, id) < 8 {
+        return tell(st, Checked::Refused(Refusal::IdRegistered));
+    }
+    let i = place_of(motors, 0);
+    if i < 8 {
+        let m = motor::motor::new(id, host, model, wait, time);
+        return tell(with_motor(st, i, m), Checked::Passed);
+    }
+    tell(st, Checked::Refused(Refusal::StationFull))
+}
+
+// A motor is registered: its model is named by any bytes.
+pub fn register(st: Station, id: u16, host: u16, name: &[u8], wait: u64, time: u64) -> Told
+    ensures is { λ r. ⌜ r ≡ registerIn st id host (modelNamed (now (name .entry))) wait time ⌝ }
+    ensures means { λ r. ⌜ ((s : List Place) → Shows st s → ToldAs r (stationCall s (call.register id host (modelNamed (now (name .entry))) wait time))) ⌝ }
+{
+    match registration(id, host, name, wait, time) {
+        Admission::Admitted(model) => admitted(st, id, host, model, wait, time),
+        Admission::Refused(refusal) => tell(st, Checked::Refused(refusal)),
+    }
+}
+
+// ---- start: 6, then the motor's. Step: 6, then the motor's
+
+fn moved_at(st: Station, i: usize, a: Answered) -> Moved
+    requires { ⌜ i < 8 ⌝ }
+    ensures { λ r. ⌜ r ≡ movedAt st i a ⌝ }
+{
+    let m = a.motor;
+    let said = a.said;
+    let frame = a.frame;
+    let result = a.result;
+    let station = with_motor(st, i, m);
+    Moved {
+        station,
+        said,
+        frame,
+        result,
+    }
+}
+
+// 6.
+fn not_moved(st: Station) -> Moved
+    ensures { λ r. ⌜ r ≡ unmoved st ⌝ }
+{
+    Moved {
+        station: st,
+        said: Said::Refused(Refusal::IdNotRegistered),
+        frame: no_frame(),
+        result: [0; 8],
+    }
+}
+
+// A call starts an operation.
+pub fn start(st: Station, id: u16, command: Command, now: u64) -> Moved
+    ensures is { λ r. ⌜ r ≡ startIn st id command now ⌝ }
+    ensures means { λ r. ⌜ ((s : List Place) → Shows st s → MovedAs r (stationCall s (call.start id command now))) ⌝ }
+{
+    let motors = st.motors;
+    let i = taken_place(motors, id);
+    if i < 8 {
+        let m = motor_at(motors, i);
+        return moved_at(st, i, motor::motor::start(m, command, now));
+    }
+    not_moved(st)
+}
+
+// The operation goes on.
+pub fn step(st: Station, id: u16, now: u64) -> Moved
+    ensures is { λ r. ⌜ r ≡ stepIn st id now ⌝ }
+    ensures means { λ r. ⌜ ((s : List Place) → Shows st s → MovedAs r (stationCall s (call.step id now))) ⌝ }
+{
+    let motors = st.motors;
+    let i = taken_place(motors, id);
+    if i < 8 {
+        let m = motor_at(motors, i);
+        return moved_at(st, i, motor::motor::step(m, now));
+    }
+    not_moved(st)
+}
+
+// ---- frame: 13, then the motor's
+
+// The id of the motor that a frame comes from.
+fn source_of(frame: CanFrame) -> u16
+    ensures { λ r. ⌜ r ≡ source frame ⌝ }
+{
+    let parts = ext_id_parts(frame.arbitration_id);
+    parts.extra_data % 256
+}
+
+fn heard_at(st: Station, i: usize, h: Heard) -> Told
+    requires { ⌜ i < 8 ⌝ }
+    ensures { λ r. ⌜ r ≡ heardAt st i h ⌝ }
+{
+    let m = h.motor;
+    let said = h.said;
+    tell(with_motor(st, i, m), said)
+}
+
+// A frame goes to the registered motor that accepts it.
+pub fn frame(st: Station, frame: CanFrame, now: u64) -> Told
+    ensures is { λ r. ⌜ r ≡ frameIn st frame now ⌝ }
+    ensures means { λ r. ⌜ ((s : List Place) → Shows st s → ToldAs r (stationCall s (call.frame frame now))) ⌝ }
+{
+    let id = source_of(frame);
+    if !accepts_frame(id, frame) {
+        return tell(st, Checked::Refused(Refusal::FrameNotAccepted));
+    }
+    let motors = st.motors;
+    let i = taken_place(motors, id);
+    if i < 8 {
+        let m = motor_at(motors, i);
+        return heard_at(st, i, process_feedback_frame(m, frame, now));
+    }
+    tell(st, Checked::Refused(Refusal::FrameNotAccepted))
+}
+
+// ---- look: 6
+
+// All that a motor holds. A look changes nothing.
+pub fn look(st: Station, id: u16) -> Looked
+    ensures is { λ r. ⌜ r ≡ lookIn st id ⌝ }
+    ensures means { λ r. ⌜ ((s : List Place) → Shows st s → (answerOf r, s) ≡ stationCall s (call.look id)) ⌝ }
+{
+    let motors = st.motors;
+    let i = taken_place(motors, id);
+    if i < 8 {
+        let seen = motor::motor::look(motor_at(motors, i));
+        return Looked {
+            said: Checked::Passed,
+            seen,
+        };
+    }
+    let seen = motor::motor::look(free_motor());
+    Looked {
+        said: Checked::Refused(Refusal::IdNotRegistered),
+        seen,
+    }
+}
+
+// ---- remove: 6, 7, 8
+
+// The place is free again where the motor may go.
+fn removed_at(st: Station, i: usize, said: Checked) -> Told
+    requires { ⌜ i < 8 ⌝ }
+    ensures { λ r. ⌜ r ≡ removedAt said st i ⌝ }
+{
+    match said {
+        Checked::Passed => tell(with_motor(st, i, free_motor()), Checked::Passed),
+        Checked::Refused(refusal) => tell(st, Checked::Refused(refusal)),
+    }
+}
+
+// A motor is removed.
+pub fn remove(st: Station, id: u16, now: u64) -> Told
+    ensures is { λ r. ⌜ r ≡ removeIn st id now ⌝ }
+    ensures means { λ r. ⌜ ((s : List Place) → Shows st s → ToldAs r (stationCall s (call.remove id now))) ⌝ }
+{
+    let motors = st.motors;
+    let i = taken_place(motors, id);
+    if i < 8 {
+        let m = motor_at(motors, i);
+        return removed_at(st, i, removal(m, now));
+    }
+    tell(st, Checked::Refused(Refusal::IdNotRegistered))
+}
