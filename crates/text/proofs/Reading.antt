@@ -1,6 +1,7 @@
 -- What one more digit, and one more byte of a line, do to what is read. Assumes nothing.
 use Prim.Native.Nat.{ℕ, zero, suc, _+_, _*_, _-_, _/_, _≤_, _<_}
 use mathlib.Core.Path.{_≡_, refl, ap, sym, _∙_}
+use mathlib.Core.Bool.{Bool, true, false, _&&_}
 use mathlib.Core.List.{List, [], _∷_}
 use native.Mathlib.Omega.{arith}
 use native.Mathlib.Numerals.{add-one}
@@ -8,11 +9,12 @@ use native.Mathlib.Nat.{le-div-iff-mul-le, div-lt-iff-lt-mul}
 use lib.ListN.{length, take, drop, getD, length-drop}
 use lib.Seq.{drop-cons, drop-length, drop-nil, take-length, take-all}
 use Rattle.bytes.specs.Bytes.{indexOf, slice}
+use lib.Dec.{eqb}
 use borrow.Author.Tests.{lt-ltb, le-ltb, eq-eqb, ne-eqb}
 use Rattle.text.specs.declared.numbers.Num.{Num}
 use Rattle.text.specs.declared.numbers.Num.the-variants.{Value, Bad}
 use Rattle.text.specs.Numbers.{digitOf, readFrom, inBase}
-use Rattle.text.specs.Words.{wordsIn, wordAt}
+use Rattle.text.specs.Words.{wordsIn, wordAt, pastWord, sameBytes, whichOf}
 
 -- the test before a multiplication is right: it refuses what reaches 2^64, and nothing else
 pub over : (base d n : ℕ) → 0 < base → d < base → base ≤ 16 → (18446744073709551615 - d) / base < n → 18446744073709551616 ≤ n * base + d
@@ -93,3 +95,51 @@ word-past s k e z f h =
 -- a part to the end of s is s from there on
 pub to-end : (n : ℕ) (s : List ℕ) → take (length s - n) (drop n s) ≡ drop n s
 to-end n s = take-all (length s - n) (drop n s) (rw length-drop (omega arith))
+
+-- ---- the same bytes
+
+-- lists of different lengths differ
+pub unlike-lengths : (a b : List ℕ) → (length a ≡ length b → ⊥) → sameBytes a b ≡ false
+unfolding sameBytes
+unlike-lengths [] [] h = absurd (h refl)
+unlike-lengths [] (y ∷ b) h = refl
+unlike-lengths (x ∷ a) [] h = refl
+unlike-lengths (x ∷ a) (y ∷ b) h = last (eqb x y) (unlike-lengths a b (λ e. h (ap suc e)))
+  where
+    last : (t : Bool) → sameBytes a b ≡ false → t && sameBytes a b ≡ false
+    last true e = e
+    last false e = refl
+
+-- what is compared from place i on, by the pair there
+pub from-place : (a b : List ℕ) (i : ℕ) → i < length a → i < length b
+    → sameBytes (drop i a) (drop i b) ≡ eqb (getD a i 0) (getD b i 0) && sameBytes (drop (suc i) a) (drop (suc i) b)
+unfolding sameBytes
+from-place a b i h k = rw (drop-cons a i 0 h, drop-cons b i 0 k)
+
+-- nothing is left past the end
+pub at-end : (a b : List ℕ) → length a ≡ length b → sameBytes (drop (length a) a) (drop (length a) b) ≡ true
+unfolding sameBytes
+at-end a b e = rw (drop-length a, e, drop-length b)
+
+-- ---- one of the names
+
+pub which-none : (names : List ℕ) (n : ℕ) (w : List ℕ) → n ≡ 0 → 0 ≡ whichOf names n w
+unfolding whichOf
+which-none names n w e = rw e
+
+pub which-here : (names : List ℕ) (n : ℕ) (w : List ℕ) → (n ≡ 0 → ⊥) → sameBytes w (wordAt names 0) ≡ true → 0 ≡ whichOf names n w
+unfolding whichOf
+which-here names zero w z e = absurd (z refl)
+which-here names (suc n) w z e = rw e
+
+pub which-later : (names : List ℕ) (n : ℕ) (w : List ℕ) → (n ≡ 0 → ⊥) → sameBytes w (wordAt names 0) ≡ false → 1 + whichOf (pastWord names) (n - 1) w ≡ whichOf names n w
+unfolding whichOf
+which-later names zero w z e = absurd (z refl)
+which-later names (suc n) w z e = let p : suc n - 1 ≡ n = omega arith in rw (p, e)
+
+-- what follows the first space, and where there is none
+pub past-first : (s : List ℕ) (e : ℕ) → e ≡ 0 + indexOf 32 (slice 0 (length s) s) → drop (e + 1) s ≡ pastWord s
+past-first s e f = rw (f, whole s)
+
+pub past-none : (s : List ℕ) (e : ℕ) → e ≡ 0 + indexOf 32 (slice 0 (length s) s) → length s ≤ e → drop e s ≡ pastWord s
+past-none s e f h = drop-past e s h ∙ sym (drop-past (e + 1) s (omega arith)) ∙ past-first s e f

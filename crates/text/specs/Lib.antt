@@ -1,3 +1,5 @@
 pub mod Words
 pub mod Numbers
 pub mod Put
+pub mod Fields
+pub mod Ascii

@@ -1,6 +1,6 @@
 -- Words parted by single spaces. Definitions only.
 use Prim.Native.Nat.{ℕ, zero, suc, _+_}
-use mathlib.Core.Bool.{cond}
+use mathlib.Core.Bool.{Bool, true, false, cond, _&&_}
 use mathlib.Core.List.{List, [], _∷_}
 use lib.ListN.{take, drop}
 use lib.Dec.{eqb}
@@ -15,3 +15,18 @@ wordsIn (b ∷ s) = cond (eqb b 32) (wordsIn s + 1) (wordsIn s)
 unfoldable pub wordAt : List ℕ → ℕ → List ℕ
 wordAt s zero = take (indexOf 32 s) s
 wordAt s (suc k) = wordAt (drop (indexOf 32 s + 1) s) k
+
+-- what follows the first space of s; nothing where there is none
+abbrev pub pastWord : List ℕ → List ℕ
+pastWord s = drop (indexOf 32 s + 1) s
+
+unfoldable pub sameBytes : List ℕ → List ℕ → Bool
+sameBytes [] [] = true
+sameBytes [] (b ∷ t) = false
+sameBytes (a ∷ s) [] = false
+sameBytes (a ∷ s) (b ∷ t) = eqb a b && sameBytes s t
+
+-- which of the first n words of names is w, the first that it is, and n for none
+unfoldable pub whichOf : List ℕ → ℕ → List ℕ → ℕ
+whichOf names zero w = 0
+whichOf names (suc n) w = cond (sameBytes w (wordAt names 0)) 0 (1 + whichOf (pastWord names) n w)

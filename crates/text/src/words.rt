@@ -1,7 +1,8 @@
 // The words of a line. Words are parted by single spaces, so a line has one word more than it has
 // spaces, and two spaces together part an empty word.
 ghost use mathlib.Core.Path.{_≡_};
-ghost use Rattle.text.specs.Words.{wordsIn, wordAt};
+ghost use Prim.Native.Nat.{_≤_};
+ghost use Rattle.text.specs.Words.{wordsIn, wordAt, pastWord, sameBytes, whichOf};
 
 // How many words s has.
 pub fn word_count(s: &[u8]) -> usize
@@ -30,4 +31,45 @@ pub fn word(s: &[u8], k: usize) -> &[u8]
         return word(&s[end + 1..], k - 1);
     }
     &s[end..]
+}
+
+// What follows the first space of s; nothing where there is none.
+fn past_word(s: &[u8]) -> &[u8]
+    ensures { λ r. ⌜ now r ≡ pastWord (now (s .entry)) ⌝ }
+{
+    let end = bytes::scan::find(s, 0, s.len(), b' ');
+    if end < s.len() {
+        return &s[end + 1..];
+    }
+    &s[end..]
+}
+
+// Whether two words are the same bytes.
+pub fn same(a: &[u8], b: &[u8]) -> bool
+    ensures { λ r. ⌜ r ≡ sameBytes (now (a .entry)) (now (b .entry)) ⌝ }
+{
+    if a.len() != b.len() {
+        return false;
+    }
+    let mut i = 0;
+    while i < a.len() {
+        if a[i] != b[i] {
+            return false;
+        }
+        i += 1;
+    }
+    true
+}
+
+// Which of the first n words of names w is, the first that it is, and n for none.
+pub fn which(names: &[u8], n: usize, w: &[u8]) -> usize
+    ensures { λ r. ⌜ (r ≡ whichOf (now (names .entry)) n (now (w .entry))) × (r ≤ n) ⌝ }
+{
+    if n == 0 {
+        return 0;
+    }
+    if same(w, word(names, 0)) {
+        return 0;
+    }
+    1 + which(past_word(names), n - 1, w)
 }
