@@ -1,0 +1,82 @@
+-- Right because the command's place, its shape and the arguments are the definition's.
+use borrow.Author.Tests.{le-leb, lt-leb}
+use Rattle.session.specs.Commands.{started}
+use borrow.Author.Needs.{needs}
+use Rattle.session.proofs.commands.started.Statement.{statement}
+use Rattle.session.proofs.commands.started.Tie as tie
+
+slice-aggregate-which : tie.Need-slice-aggregate-which
+slice-aggregate-which c = search needs
+
+word-requires : tie.Need-word-requires
+word-requires c κs = search needs
+
+which-requires : tie.Need-which-requires
+which-requires c κs = search needs
+
+returns : tie.Need-returns
+unfolding started
+returns c = rw (← c .before .before .word .ensures, ← c .before .which .ensures .0, le-leb _ _ (c .if1 .taken))
+
+slice-aggregate-word : tie.Need-slice-aggregate-word
+slice-aggregate-word c = search needs
+
+word-requires-2 : tie.Need-word-requires-2
+word-requires-2 c κs = search needs
+
+arguments-requires : tie.Need-arguments-requires
+arguments-requires c κs = search needs
+
+fit-requires : tie.Need-fit-requires
+fit-requires c κs = search needs
+
+enum-told : tie.Need-enum-told
+enum-told c = search needs
+
+start-of-requires : tie.Need-start-of-requires
+start-of-requires c κs = search needs
+
+enum-known-reason : tie.Need-enum-known-reason
+enum-known-reason c = search needs
+
+returns-2 : tie.Need-returns-2
+unfolding started
+returns-2 c =
+    let p1 = c .before in
+    let p2 = p1 .before .before in
+    let p3 = p2 .before .before in
+    let p4 = p3 .before in
+    let p5 = p4 .before .before in
+    let p6 = p5 .before in
+    let p7 = p6 .before in
+    rw (← p7 .word .ensures, ← p6 .which .ensures .0, lt-leb _ _ (p5 .if1 .left), ← p4 .word2 .ensures, ← p3 .arguments .ensures, ← p2 .fit .ensures, p1 .enum-told .given .1) (c .start-of .ensures)
+
+returns-3 : tie.Need-returns-3
+unfolding started
+returns-3 c =
+    let p1 = c .before in
+    let p2 = p1 .before .before in
+    let p3 = p2 .before .before in
+    let p4 = p3 .before in
+    let p5 = p4 .before .before in
+    let p6 = p5 .before in
+    let p7 = p6 .before in
+    rw (← p7 .word .ensures, ← p6 .which .ensures .0, lt-leb _ _ (p5 .if1 .left), ← p4 .word2 .ensures, ← p3 .arguments .ensures, ← p2 .fit .ensures, p1 .reason .given .1)
+
+pub started-spec : {M : Type 1} → statement M
+started-spec =
+    tie.close
+    (tie.spec
+    slice-aggregate-which
+    word-requires
+    which-requires
+    returns
+    slice-aggregate-word
+    word-requires-2
+    arguments-requires
+    fit-requires
+    enum-told
+    start-of-requires
+    enum-known-reason
+    returns-2
+    returns-3)

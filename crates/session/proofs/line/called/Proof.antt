@@ -1,0 +1,58 @@
+-- Right because the shape and the arguments are the definition's.
+use Rattle.session.specs.Lines.{called}
+use borrow.Author.Needs.{needs}
+use Rattle.session.proofs.line.called.Statement.{statement}
+use Rattle.session.proofs.line.called.Tie as tie
+
+slice-aggregate-word : tie.Need-slice-aggregate-word
+slice-aggregate-word c = search needs
+
+word-requires : tie.Need-word-requires
+word-requires c κs = search needs
+
+arguments-requires : tie.Need-arguments-requires
+arguments-requires c κs = search needs
+
+fit-requires : tie.Need-fit-requires
+fit-requires c κs = search needs
+
+enum-told : tie.Need-enum-told
+enum-told c = search needs
+
+call-of-requires : tie.Need-call-of-requires
+call-of-requires c κs = search needs
+
+enum-known-reason : tie.Need-enum-known-reason
+enum-known-reason c = search needs
+
+returns : tie.Need-returns
+unfolding called
+returns c =
+    let p1 = c .before in
+    let p2 = p1 .before .before in
+    let p3 = p2 .before .before in
+    let p4 = p3 .before in
+    rw (← p4 .word .ensures, ← p3 .arguments .ensures, ← p2 .fit .ensures, p1 .enum-told .given .1) (c .call-of .ensures)
+
+returns-2 : tie.Need-returns-2
+unfolding called
+returns-2 c =
+    let p1 = c .before in
+    let p2 = p1 .before .before in
+    let p3 = p2 .before .before in
+    let p4 = p3 .before in
+    rw (← p4 .word .ensures, ← p3 .arguments .ensures, ← p2 .fit .ensures, p1 .reason .given .1)
+
+pub called-spec : {M : Type 1} → statement M
+called-spec =
+    tie.close
+    (tie.spec
+    slice-aggregate-word
+    word-requires
+    arguments-requires
+    fit-requires
+    enum-told
+    call-of-requires
+    enum-known-reason
+    returns
+    returns-2)

@@ -1,0 +1,135 @@
+-- The command of a start. k is its place among the names, and v has the line's numbers, the arguments from place 3 on. Definitions
+-- only.
+use Prim.Native.Nat.{ℕ, _%_, _^_}
+use mathlib.Core.Bool.{Bool, true, false, cond}
+use mathlib.Core.List.{List}
+use lib.Dec.{eqb, ltb, leb}
+use lib.ListN.{getD}
+use mir.Syntax.{w8}
+use mir.Val.{toZ}
+use Rattle.codec.specs.declared.protocol.ParameterValue.{ParameterValue}
+use Rattle.codec.specs.declared.protocol.ParameterValue.the-variants as value
+use Rattle.codec.specs.declared.registers.ControlMode.{ControlMode}
+use Rattle.codec.specs.declared.registers.ControlMode.the-variants as mode
+use Rattle.codec.specs.declared.word.Word.{Word}
+use Rattle.engine.specs.declared.command.Command.{Command}
+use Rattle.engine.specs.declared.command.Command.the-variants as command
+use Rattle.text.specs.Ascii.{ascii}
+use Rattle.text.specs.Words.{wordAt, whichOf}
+use Rattle.session.specs.declared.arguments.Args.{Args}
+use Rattle.session.specs.declared.arguments.Fitting.{Fitting}
+use Rattle.session.specs.declared.arguments.Fitting.the-variants as fit
+use Rattle.session.specs.declared.event.Event.{Event}
+use Rattle.session.specs.declared.event.Event.the-variants as event
+use Rattle.session.specs.declared.event.Reason.the-variants as reason
+use Rattle.session.specs.Arguments.{argsOf, fitOf}
+
+-- number i of a line as a byte, as 16 bits, and as a float's word
+abbrev pub byte : List ℕ → ℕ → ℕ
+byte v i = getD v i 0 % 2 ^ 8
+
+abbrev pub half : List ℕ → ℕ → ℕ
+half v i = getD v i 0 % 2 ^ 16
+
+abbrev pub wordOf : ℕ → Word
+wordOf n = record { bits = n % 2 ^ 32 }
+
+abbrev pub word : List ℕ → ℕ → Word
+word v i = wordOf (getD v i 0)
+
+abbrev pub orMode : Bool → ControlMode → ControlMode → ControlMode
+orMode true a b = a
+orMode false a b = b
+
+-- mit, pp, velocity, csp
+unfoldable pub modeAt : ℕ → ControlMode
+modeAt n = orMode (eqb n 0) mode.Mit (orMode (eqb n 1) mode.Position (orMode (eqb n 2) mode.Velocity mode.PositionCsp))
+
+abbrev pub orValue : Bool → ParameterValue → ParameterValue → ParameterValue
+orValue true a b = a
+orValue false a b = b
+
+-- i8, u8, u16, u32, f32, with the value's bits
+unfoldable pub valueAt : ℕ → ℕ → ParameterValue
+valueAt kind bits =
+    orValue (eqb kind 0) (value.I8 (toZ w8 (bits % 2 ^ 8)))
+    (orValue (eqb kind 1) (value.U8 (bits % 2 ^ 8))
+    (orValue (eqb kind 2) (value.U16 (bits % 2 ^ 16)) (orValue (eqb kind 3) (value.U32 (bits % 2 ^ 32)) (value.F32 (wordOf bits)))))
+
+-- the widest value of a kind
+unfoldable pub widestOf : ℕ → ℕ
+widestOf kind = cond (eqb kind 0) 0xFF (cond (eqb kind 1) 0xFF (cond (eqb kind 2) 0xFFFF 0xFFFF_FFFF))
+
+abbrev pub orCommand : Bool → Command → Command → Command
+orCommand true a b = a
+orCommand false a b = b
+
+-- ping to set_device_id
+unfoldable pub setUp : ℕ → List ℕ → Command
+setUp k v =
+    orCommand (eqb k 0) (command.Ping (getD v 3 0))
+    (orCommand (eqb k 1) (command.PingWithHostId (half v 3) (getD v 4 0))
+    (orCommand (eqb k 2) (command.SetMode (modeAt (getD v 3 0)))
+    (orCommand (eqb k 3) (command.EnsureControlMode (modeAt (getD v 3 0)) (getD v 4 0))
+    (orCommand (eqb k 4) command.SetZeroPosition
+    (orCommand (eqb k 5) command.SaveParameters
+    (orCommand (eqb k 6) (command.GetProtocolFlag (getD v 3 0))
+    (orCommand (eqb k 7) (command.SetProtocol (byte v 3) (getD v 4 0)) (command.SetDeviceId (byte v 3)))))))))
+
+-- enable to controlled_stop
+unfoldable pub driven : ℕ → List ℕ → Command
+driven k v =
+    orCommand (eqb k 9) command.Enable
+    (orCommand (eqb k 10) command.Disable
+    (orCommand (eqb k 11) command.ClearError
+    (orCommand (eqb k 12) (command.SetActiveReport (eqb (getD v 3 0) 1))
+    (orCommand (eqb k 13) (command.SendCmdMit (word v 3) (word v 4) (word v 5) (word v 6) (word v 7))
+    (orCommand (eqb k 14) (command.SetVelocityTarget (word v 3))
+    (orCommand (eqb k 15) (command.GetControlMode (getD v 3 0)) (command.ControlledStop (getD v 3 0))))))))
+
+-- write_parameter to get_parameter_i8
+unfoldable pub parameterCall : ℕ → List ℕ → Command
+parameterCall k v =
+    orCommand (eqb k 17) (command.WriteParameter (half v 3) (valueAt (getD v 4 0) (getD v 5 0)))
+    (orCommand (eqb k 18) (command.SendCmdPosVelCsp (word v 3) (word v 4))
+    (orCommand (eqb k 19) (command.SendCmdPosVelPp (word v 3) (word v 4) (word v 5))
+    (orCommand (eqb k 20) (command.RequestParameter (half v 3))
+    (orCommand (eqb k 21) (command.GetParameter (half v 3) (getD v 4 0))
+    (orCommand (eqb k 22) (command.GetParameterWithHostId (half v 3) (half v 4) (getD v 5 0))
+    (orCommand (eqb k 23) (command.GetParameterF32 (half v 3) (getD v 4 0)) (command.GetParameterI8 (half v 3) (getD v 4 0))))))))
+
+unfoldable pub commandAt : ℕ → List ℕ → Command
+commandAt k v = orCommand (ltb k 9) (setUp k v) (orCommand (ltb k 17) (driven k v) (parameterCall k v))
+
+abbrev pub orEvent : Bool → Event → Event → Event
+orEvent true a b = a
+orEvent false a b = b
+
+-- a written value is no wider than its kind
+abbrev pub tooWide : ℕ → List ℕ → Bool
+tooWide k v = cond (eqb k 17) (ltb (widestOf (getD v 4 0)) (getD v 5 0)) false
+
+unfoldable pub startAt : ℕ → List ℕ → Event
+startAt k v = orEvent (tooWide k v) (event.Error (reason.BadWord 7 0x56)) (event.Start (half v 0) (getD v 1 0) (commandAt k v))
+
+-- what a line with these words is, where they fit
+abbrev pub ifFit : Fitting → Event → Event
+ifFit fit.Good e = e
+ifFit (fit.Bad r) e = event.Error r
+
+abbrev pub commands : List ℕ
+commands = ascii "ping ping_with_host_id set_mode ensure_control_mode set_zero_position save_parameters get_protocol_flag set_protocol set_device_id enable disable clear_error set_active_report send_cmd_mit set_velocity_target get_control_mode controlled_stop write_parameter send_cmd_pos_vel_csp send_cmd_pos_vel_pp request_parameter get_parameter get_parameter_with_host_id get_parameter_f32 get_parameter_i8"
+
+-- the shape of each command's line
+abbrev pub shapes : List ℕ
+shapes = ascii "ITXT ITXIT ITXC ITXCT ITX ITX ITXT ITXPT ITXB ITX ITX ITX ITXF ITXWWWWW ITXW ITXT ITXT ITXHKW ITXWW ITXWWW ITXH ITXHT ITXHIT ITXHT ITXHT"
+
+abbrev pub startedBy : List ℕ → List ℕ → ℕ → Event
+startedBy line shape k = ifFit (fitOf line shape (argsOf line shape .good)) (startAt k (argsOf line shape .v))
+
+abbrev pub startedAs : List ℕ → ℕ → Event
+startedAs line k = orEvent (leb 25 k) (event.Error reason.NoSuchCommand) (startedBy line (wordAt shapes k) k)
+
+-- start ID TIME COMMAND ARGS
+unfoldable pub started : List ℕ → Event
+started line = startedAs line (whichOf commands 25 (wordAt line 3))

@@ -1,0 +1,95 @@
+-- A frame heard: a line of a candump log. Definitions only.
+use Prim.Native.Nat.{ℕ, zero, suc, _+_, _*_, _-_, _/_, _%_, _^_}
+use mathlib.Core.Bool.{Bool, true, false, cond}
+use mathlib.Core.List.{List, [], _∷_}
+use lib.Dec.{eqb, ltb, leb}
+use lib.ListN.{length, getD, take, drop}
+use Rattle.bytes.specs.Bytes.{indexOf}
+use Rattle.text.specs.declared.numbers.Num.{Num}
+use Rattle.text.specs.declared.numbers.Num.the-variants.{Value, Bad}
+use Rattle.text.specs.Ascii.{ascii}
+use Rattle.text.specs.Numbers.{pick, inBase}
+use Rattle.text.specs.Words.{wordsIn, wordAt, whichOf}
+use Rattle.session.specs.declared.event.Event.{Event}
+use Rattle.session.specs.declared.event.Event.the-variants as event
+use Rattle.session.specs.declared.event.Reason.{Reason}
+use Rattle.session.specs.declared.event.Reason.the-variants as reason
+use Rattle.session.specs.Commands.{orEvent}
+
+-- seconds and microseconds as whole milliseconds, at most 2^64 - 1
+unfoldable pub millisecondsOf : Num → Num → Num
+millisecondsOf (Value s) (Value us) = pick (ltb (s * 1000 + us / 1000) 18446744073709551616) (Value (s * 1000 + us / 1000)) Bad
+millisecondsOf (Value s) Bad = Bad
+millisecondsOf Bad us = Bad
+
+-- (SECONDS.MICROS), of n bytes: the point stands eight before the end
+unfoldable pub stampIn : List ℕ → ℕ → Num
+stampIn w n =
+    pick (ltb n 10) Bad
+    (pick (eqb (getD w (n - 1) 0) 0x29)
+    (pick (eqb (getD w (n - 8) 0) 0x2E)
+    (millisecondsOf (inBase 10 (take (n - 9) (drop 1 w))) (inBase 10 (take 6 (drop (n - 7) w))))
+    Bad)
+    Bad)
+
+abbrev pub stampOf : List ℕ → Num
+stampOf w = stampIn w (length w)
+
+-- k zeros after the digits of v, below 2^64
+unfoldable pub shiftedBy : ℕ → ℕ → Num
+shiftedBy v zero = Value v
+shiftedBy v (suc k) = pick (ltb 0x0FFF_FFFF_FFFF_FFFF v) Bad (shiftedBy (v * 16) k)
+
+abbrev pub shiftedNum : Num → ℕ → Num
+shiftedNum (Value v) k = shiftedBy v k
+shiftedNum Bad k = Bad
+
+-- 0 to 8 bytes, two digits each, with zeros for those that aren't there
+unfoldable pub dataIn : List ℕ → Num
+dataIn w =
+    pick (eqb (length w) 0) (Value 0)
+    (pick (ltb 16 (length w)) Bad (pick (eqb (length w % 2) 1) Bad (shiftedNum (inBase 16 w) (16 - length w))))
+
+abbrev pub begins : List ℕ → ℕ → Bool
+begins w b = cond (eqb (length w) 0) false (eqb (getD w 0 0) b)
+
+-- DATA of a frame with this time, id and length of the id
+abbrev pub framed : Num → ℕ → ℕ → Bool → ℕ → Event
+framed (Value bytes) time id extended n = event.Frame time id bytes extended (n / 2 % 2 ^ 8) true
+framed Bad time id extended n = event.Error reason.FrameData
+
+unfoldable pub dataFrame : List ℕ → ℕ → ℕ → Bool → Event
+dataFrame w time id extended =
+    orEvent (begins w 0x52) (event.Error reason.RemoteFrame)
+    (orEvent (begins w 0x23) (event.Error reason.FdFrame) (framed (dataIn w) time id extended (length w)))
+
+-- eight digits, or three
+abbrev pub idIn : List ℕ → Num
+idIn w = pick (eqb (length w) 8) (inBase 16 w) (pick (eqb (length w) 3) (inBase 16 w) Bad)
+
+abbrev pub withId : Num → List ℕ → ℕ → Bool → Event
+withId (Value id) rest time extended = orEvent (ltb 0x1FFF_FFFF id) (event.Error reason.ErrorFrame) (dataFrame rest time (id % 2 ^ 32) extended)
+withId Bad rest time extended = event.Error reason.FrameId
+
+-- ID#DATA, the # standing at place i
+abbrev pub frameAt : List ℕ → ℕ → ℕ → Event
+frameAt w time i = orEvent (leb (length w) i) (event.Error reason.FrameId) (withId (idIn (take i w)) (drop (i + 1) w) time (eqb i 8))
+
+unfoldable pub frameIn : List ℕ → ℕ → Event
+frameIn w time = frameAt w time (indexOf 0x23 w)
+
+-- a fourth word is R or T
+abbrev pub isDirection : ℕ → List ℕ → Bool
+isDirection n w = cond (ltb n 4) true (ltb (whichOf (ascii "R T") 2 w) 2)
+
+abbrev pub atTime : Num → List ℕ → Event
+atTime (Value time) w = frameIn w time
+atTime Bad w = event.Error reason.Stamp
+
+-- (SECONDS.MICROS) IFACE ID#DATA, and perhaps R or T
+unfoldable pub heardIn : List ℕ → Event
+heardIn line =
+    orEvent (ltb (wordsIn line) 3) (event.Error reason.LogWords)
+    (orEvent (ltb 4 (wordsIn line)) (event.Error reason.LogWords)
+    (orEvent (eqb (length (wordAt line 1)) 0) (event.Error reason.LogWords)
+    (orEvent (isDirection (wordsIn line) (wordAt line 3)) (atTime (stampOf (wordAt line 0)) (wordAt line 2)) (event.Error reason.Direction))))

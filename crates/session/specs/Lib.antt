@@ -1,0 +1,4 @@
+pub mod Arguments
+pub mod Commands
+pub mod Heard
+pub mod Lines

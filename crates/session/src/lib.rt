@@ -1,0 +1,6 @@
+// The lines of a session (REPLAY.md, the input): which event a line is, or why it is none.
+mod arguments;
+mod commands;
+pub mod event;
+mod heard;
+pub mod line;
