@@ -2,8 +2,15 @@ pub mod Places
 pub mod Steps
 pub mod TwoRuns
 pub mod Index
+pub mod Standing
+pub mod Admitting
 pub mod Meanings
 pub mod Clauses
-pub mod Refused
+pub mod Contracts
 pub mod Promised
+pub mod NumberLists
+pub mod Starts
+pub mod Numbers
+pub mod Changed
+pub mod Refused
 pub mod Unchanged

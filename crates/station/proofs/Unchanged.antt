@@ -40,9 +40,9 @@ use Rattle.station.specs.Calls.{says, answered}
 use Rattle.station.specs.Station.{source}
 use Rattle.station.specs.Stations.{freeMotor, indexOf, takenPlace, motorAt, withMotor, atPlace, told, movedAt, unmoved, heardAt, removedAt, enteredIn, admittedIn, registerBy, registerIn, startIn, stepIn, frameIn, removeIn}
 use Rattle.station.specs.Demands.{stillBy, still}
-use Rattle.station.proofs.Promised.{Request, registering, starting, stepping, receiving, looking, removing}
-use Rattle.station.proofs.Promised.{Out, moved, looked, answerIn, next, Gives}
-use Rattle.station.proofs.Promised.{told as tells}
+use Rattle.station.proofs.Contracts.{Request, registering, starting, stepping, receiving, looking, removing}
+use Rattle.station.proofs.Contracts.{Out, moved, looked, answerIn, next, Gives}
+use Rattle.station.proofs.Contracts.{told as tells}
 use Rattle.station.proofs.Refused.{not-true, said-moves}
 
 -- ---- a motor refused by such a number is the same value
