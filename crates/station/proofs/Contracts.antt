@@ -1,7 +1,7 @@
 -- The six calls over the functions' own contracts: by what they promise, answer and next station are document 01's. `Reads.Post` of
 -- a function is what its contract promises, as the check has read it: a contract that is weakened or dropped breaks this file.
 -- Assumes nothing.
-use mathlib.Core.Path.{_≡_, refl, ap, _∙_, subst}
+use mathlib.Core.Path.{_≡_, refl, sym, ap, _∙_, subst}
 use mathlib.Core.List.{List}
 use mathlib.Core.Option.{Option, none, some}
 use Prim.Native.Nat.{ℕ}
@@ -19,7 +19,7 @@ use Rattle.station.specs.declared.station.Looked.{Looked}
 use Rattle.station.specs.Calls.{Call, register, start, step, frame, look, remove}
 use Rattle.station.specs.Calls.{Answer, no, says, shows, answered, refuses}
 use Rattle.station.specs.Station.{Place, held, lone, route, stationCall}
-use Rattle.station.specs.Stations.{lookIn, answerOf, Shows, ToldAs, MovedAs}
+use Rattle.station.specs.Stations.{registerIn, startIn, stepIn, frameIn, lookIn, removeIn, answerOf, Shows, ToldAs, MovedAs}
 use Rattle.station.proofs.Meanings.{look-means}
 use Rattle.station.proofs.station.new.Reads as new-reads
 use Rattle.station.proofs.station.register.Reads as register-reads
@@ -86,6 +86,36 @@ Gives st (looking m) (looked r) = look-reads.Post tt (st, (m, tt)) r (st, (m, tt
 Gives st (removing m t) (moved r) = ⊥
 Gives st (removing m t) (told r) = remove-reads.Post tt (st, (m, (t, tt))) r (st, (m, (t, tt)))
 Gives st (removing m t) (looked r) = ⊥
+
+-- By the first clauses it is the definition's value, whatever the station.
+unfoldable pub given : Station → Request → Out
+given st (registering κ m h n w t) = told (registerIn st m h (modelNamed (now n)) w t)
+given st (starting m c t) = moved (startIn st m c t)
+given st (stepping m t) = moved (stepIn st m t)
+given st (receiving f t) = told (frameIn st f t)
+given st (looking m) = looked (lookIn st m)
+given st (removing m t) = told (removeIn st m t)
+
+pub gives-given : (st : Station) (q : Request) (o : Out) → Gives st q o → given st q ≡ o
+unfolding given
+gives-given st (registering κ m h n w t) (moved r) g = absurd g
+gives-given st (registering κ m h n w t) (told r) g = ap {B = Out} told (sym (g .0))
+gives-given st (registering κ m h n w t) (looked r) g = absurd g
+gives-given st (starting m c t) (moved r) g = ap {B = Out} moved (sym (g .0))
+gives-given st (starting m c t) (told r) g = absurd g
+gives-given st (starting m c t) (looked r) g = absurd g
+gives-given st (stepping m t) (moved r) g = ap {B = Out} moved (sym (g .0))
+gives-given st (stepping m t) (told r) g = absurd g
+gives-given st (stepping m t) (looked r) g = absurd g
+gives-given st (receiving f t) (moved r) g = absurd g
+gives-given st (receiving f t) (told r) g = ap {B = Out} told (sym (g .0))
+gives-given st (receiving f t) (looked r) g = absurd g
+gives-given st (looking m) (moved r) g = absurd g
+gives-given st (looking m) (told r) g = absurd g
+gives-given st (looking m) (looked r) g = ap {B = Out} looked (sym (g .0))
+gives-given st (removing m t) (moved r) g = absurd g
+gives-given st (removing m t) (told r) g = ap {B = Out} told (sym (g .0))
+gives-given st (removing m t) (looked r) g = absurd g
 
 -- What a look at m shows: clock, counts, feedback, fault report, ping reply, readings, gains and operation.
 unfoldable pub seen : Station → ℕ → Answer

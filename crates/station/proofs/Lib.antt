@@ -8,6 +8,7 @@ pub mod Meanings
 pub mod Clauses
 pub mod Contracts
 pub mod Promised
+pub mod Elsewhere
 pub mod NumberLists
 pub mod Starts
 pub mod Numbers
