@@ -19,8 +19,8 @@ use Rattle.motor.specs.Motors.{newMotor}
 use Rattle.motor.specs.Numbers.{firstOf}
 use Rattle.motor.proofs.ReadingsHeld.{empty-holds}
 use Rattle.station.specs.declared.station.Station.{Station}
-use Rattle.station.specs.Calls.{says, answered}
-use Rattle.station.specs.Station.{Place, free, held, place, full, isSome}
+use Rattle.station.specs.Calls.{answered}
+use Rattle.station.specs.Station.{Place, held, full, isSome}
 use Rattle.station.specs.Station.{enter, admit}
 use Rattle.station.specs.Stations.{indexOf, atPlace, enteredIn, admittedIn, registerBy}
 use Rattle.station.specs.Stations.{Shows, ToldAs}

@@ -7,6 +7,7 @@ use mathlib.Core.Option.{Option, some}
 use Rattle.codec.specs.declared.bus.CanFrame.{CanFrame}
 use Rattle.codec.specs.declared.error.Checked.{Checked}
 use Rattle.codec.specs.declared.error.Checked.the-variants as checked
+use Rattle.codec.specs.declared.error.Refusal.{Refusal}
 use Rattle.codec.specs.declared.error.Refusal.the-variants as refusal
 use Rattle.codec.specs.Kinds.{among}
 use Rattle.codec.specs.Refusals.{numberOf}
@@ -18,6 +19,7 @@ use Rattle.motor.specs.Lone.{Lone, loneStep, hears}
 use Rattle.motor.specs.Readings.{insert, room}
 use Rattle.motor.specs.Receive.{accepts, counted, readId, readStored, frameSaid, stateAfter, readingsAfter}
 use Rattle.motor.proofs.Clock.{step-failed}
+use Rattle.motor.proofs.Stays.{movesBy}
 use Rattle.station.specs.Calls.{step, frame}
 use Rattle.station.specs.Calls.{Answer, no, says, answered}
 use Rattle.station.specs.Station.{Place, held, Distinct, movesTo, hearsTo, lone, route, source, stationCall}
@@ -59,6 +61,11 @@ frame-counted s f now h d q e = go (accepts (source f) f) refl
 
 -- ---- 16, 17, 18 and 20
 
+-- they are among those that move the clock
+pub moving : (r : Refusal) → among (numberOf r) (16 ∷ 17 ∷ 18 ∷ 20 ∷ []) ≡ true → movesBy r ≡ true
+unfolding among
+moving r e = of-each (λ n. among n (14 ∷ 15 ∷ 16 ∷ 17 ∷ 18 ∷ 20 ∷ [])) (numberOf r) (16 ∷ 17 ∷ 18 ∷ 20 ∷ []) refl e
+
 lone-ended : (h : Lone) (now : ℕ) → among (number ((movesTo (loneStep h now)) .0)) (16 ∷ 17 ∷ 18 ∷ 20 ∷ []) ≡ true
     → (movesTo (loneStep h now)) .1 ≡ some (failed h now)
 unfolding movesTo number failed among
@@ -70,8 +77,7 @@ lone-ended h now e = ap (λ (k : Lone). some k) (go (loneStep h now .said) refl 
     go (said.Waiting due) q e = absurd (true≢false (sym e))
     go (said.Finished r) q e = absurd (true≢false (sym e))
     go (said.FinishedWith r) q e = absurd (true≢false (sym e))
-    go (said.Refused r) q e =
-        step-failed h now r q (of-each (λ n. among n (14 ∷ 15 ∷ 16 ∷ 17 ∷ 18 ∷ 20 ∷ [])) (numberOf r) (16 ∷ 17 ∷ 18 ∷ 20 ∷ []) refl e)
+    go (said.Refused r) q e = step-failed h now r q (moving r e)
 
 pub step-ended : (s : List Place) (m now : ℕ) (h : Lone) → Distinct s → held s m ≡ some h
     → among (number ((stationCall s (step m now)) .0)) (16 ∷ 17 ∷ 18 ∷ 20 ∷ []) ≡ true

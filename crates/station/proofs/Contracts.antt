@@ -161,6 +161,14 @@ follows st s (removing m t) (moved r) x g = absurd g
 follows st s (removing m t) (told r) x g = told-follows st s (removing m t) r (g .1 s x)
 follows st s (removing m t) (looked r) x g = absurd g
 
+-- what is so of document 01's answer and next station is so of the code's
+pub by-contract : (st : Station) (s : List Place) → Shows st s → (q : Request) (o : Out) → Gives st q o → (P : Answer → List Place → Type 0)
+    → P ((stationCall s (callOf q)) .0) ((stationCall s (callOf q)) .1) → (t : List Place) × Shows (next st o) t × P (answerIn o) t
+by-contract st s x q o g P p =
+    let f = follows st s q o x g in
+    let t = (stationCall s (callOf q)) .1 in
+    (t, f .1, subst (λ (a : Answer). P a t) (sym (f .0)) p)
+
 -- a look shows what is held
 pub seen-is : (st : Station) (s : List Place) (m : ℕ) → Shows st s → seen st m ≡ shown (held s m)
 unfolding seen shown stationCall route refuses lone

@@ -15,3 +15,5 @@ pub mod Numbers
 pub mod Changed
 pub mod Refused
 pub mod Unchanged
+pub mod ChangedPlaces
+pub mod Kept

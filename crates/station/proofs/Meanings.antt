@@ -26,7 +26,7 @@ use Rattle.motor.proofs.LoneReceiving.{heard-both}
 use Rattle.station.specs.declared.station.Station.{Station}
 use Rattle.station.specs.Calls.{register, start, step, frame, look, remove}
 use Rattle.station.specs.Calls.{says, answered, refuses}
-use Rattle.station.specs.Station.{Place, free, taken, held, put, place, empty, source}
+use Rattle.station.specs.Station.{Place, held, put, place, empty, source}
 use Rattle.station.specs.Station.{movesTo, hearsTo, leaves, lone, route, admission, stationCall}
 use Rattle.station.specs.Stations.{freeMotor, newStation, indexOf, takenPlace, motorAt, atPlace, movedAt, heardAt, removedAt, registerIn, startIn, stepIn, frameIn, lookIn, removeIn}
 use Rattle.station.specs.Stations.{TakenAs, Shows, MovedAs, ToldAs, answerOf}

@@ -13,7 +13,7 @@ use Rattle.codec.specs.declared.model.ModelNamed.the-variants as named
 use Rattle.codec.specs.Models.{modelNamed}
 use Rattle.station.specs.declared.station.Station.{Station}
 use Rattle.station.specs.Calls.{Call, register}
-use Rattle.station.specs.Calls.{Answer, ok, says}
+use Rattle.station.specs.Calls.{Answer, ok}
 use Rattle.station.specs.Station.{Place, empty, held, Distinct, admission, stationCall}
 use Rattle.station.specs.Stations.{Shows}
 use Rattle.station.specs.History.{Told, ofM, after, removes, story, own, history, alone, holds}

@@ -1,6 +1,6 @@
 -- Demand 1 over the definitions: what a refused call leaves, and that a call leaves every other motor. Assumes nothing.
 use Prim.Native.Nat.{ℕ}
-use mathlib.Core.Path.{_≡_, refl, sym, ap, _∙_, subst}
+use mathlib.Core.Path.{_≡_, refl, sym, ap, _∙_}
 use mathlib.Core.Bool.{Bool, true, false, true≢false, not, cond}
 use mathlib.Core.List.{List}
 use mathlib.Core.Option.{Option, none, some}
@@ -18,13 +18,13 @@ use Rattle.motor.specs.Receive.{accepts}
 use Rattle.motor.proofs.Clock.{refused-nothing}
 use Rattle.motor.proofs.Stays.{movesBy, moves, heardMoves}
 use Rattle.station.specs.Calls.{Call, register, start, step, frame, look, remove}
-use Rattle.station.specs.Calls.{Answer, ok, no, says, shows, answered, refuses}
+use Rattle.station.specs.Calls.{Answer, ok, no, says, answered, refuses}
 use Rattle.station.specs.Station.{Place, held, put, Distinct, movesTo, hearsTo, leaves, lone, route, admission, enter, admit, source, stationCall}
 use Rattle.station.specs.Demands.{stillBy, still, Demand1}
 use Rattle.station.proofs.Changed.{frame-counted, step-ended}
 use Rattle.station.proofs.Numbers.{call-numbers, start-none, frame-none}
 use Rattle.station.proofs.Places.{held-put, put-held}
-use Rattle.station.proofs.Steps.{other}
+use Rattle.station.proofs.Steps.{other, no-ok}
 
 pub not-true : (b : Bool) → not b ≡ true → b ≡ false
 not-true true e = absurd (true≢false (sym e))
@@ -102,25 +102,13 @@ call-still s (look m) e = route-still s m (held s m) refusal.IdNotRegistered (lo
 call-still s (remove m now) e = route-still s m (held s m) refusal.IdNotRegistered (remove m now) refl e
 
 -- a removal that isn't refused frees the place
-ok-no : {A : Type 0} (r : Refusal) → no r ≡ ok → A
-ok-no {A} r e = go (subst IsNo e tt)
-  where
-    IsNo : Answer → Type 0
-    IsNo ok = ⊥
-    IsNo (no r) = Unit {0}
-    IsNo (says a f b) = ⊥
-    IsNo (shows v) = ⊥
-
-    go : ⊥ → A
-    go x = absurd x
-
 removed : (s : List Place) (m now : ℕ) → Distinct s → (stationCall s (remove m now)) .0 ≡ ok → held ((stationCall s (remove m now)) .1) m ≡ none
 unfolding stationCall route lone answered leaves refuses
 removed s m now d e = by-held (held s m) refl e
   where
     left : (h : Lone) → held s m ≡ some h → (k : Checked) → answered k ≡ ok → held (put s m (leaves h k)) m ≡ none
     left h q checked.Passed e = held-put s m h none d q
-    left h q (checked.Refused r) e = ok-no r e
+    left h q (checked.Refused r) e = no-ok r e
 
     by-held : (o : Option Lone) → held s m ≡ o → (route s m o refusal.IdNotRegistered (remove m now)) .0 ≡ ok
         → held ((route s m o refusal.IdNotRegistered (remove m now)) .1) m ≡ none

@@ -10,7 +10,6 @@ use Rattle.motor.specs.declared.motor.Motor.{Motor}
 use Rattle.motor.specs.Lone.{Lone}
 use Rattle.station.specs.declared.station.Station.{Station}
 use Rattle.station.specs.Station.{Place, held, put, place}
-use Rattle.station.specs.Station.{lone}
 use Rattle.station.specs.Stations.{freeMotor, indexOf, takenPlace, motorAt, withMotor}
 use Rattle.station.specs.Stations.{TakenAs, PlaceAs, Shows}
 use Rattle.station.proofs.Index.{held-none, held-some, held-zero, put-as}

@@ -40,7 +40,7 @@ use Rattle.motor.specs.Numbers.{firstOf}
 use Rattle.motor.specs.Receive.{late}
 use Rattle.motor.proofs.GoodNodes.{Good, begins-good}
 use Rattle.motor.proofs.Stays.{argued-passed}
-use Rattle.station.specs.Calls.{says, refuses}
+use Rattle.station.specs.Calls.{says}
 use Rattle.station.specs.Station.{movesTo}
 use Rattle.station.specs.Demands.{number}
 use Rattle.station.proofs.Steps.{refused-passed}

@@ -220,7 +220,7 @@ call-distinct s (remove i now) d = route-distinct s i (held s i) refusal.IdNotRe
 
 -- ---- a registration that isn't refused holds a new motor; one that passes the tests isn't refused
 
-no-ok : {A : Type 0} (r : Refusal) → no r ≡ ok → A
+pub no-ok : {A : Type 0} (r : Refusal) → no r ≡ ok → A
 unfolding isOk
 no-ok {A} r e = absurd (true≢false (sym (ap isOk e)))
 
