@@ -33,18 +33,18 @@ use Rattle.motor.specs.Motors.{newMotor, startBy, startOf, stepBy, stepOf, remo
 use Rattle.motor.specs.Readings.{findOf, putOf}
 use Rattle.motor.specs.Receive.{accepts, late, readId, readStored, frameSaid, stateAfter, readingsAfter, isFull, heardOf}
 use Rattle.motor.proofs.Ends.{Closed, begin-ends, advance-ends}
-use Rattle.motor.proofs.Stays.{movesBy, moves, heardMoves, argued-passed, running}
+use Rattle.motor.proofs.Stays.{moves, heardMoves, argued-passed, running}
 use Rattle.station.specs.declared.station.Station.{Station}
 use Rattle.station.specs.declared.station.Moved.{Moved}
 use Rattle.station.specs.declared.station.Told.{Told}
 use Rattle.station.specs.Calls.{says, answered}
 use Rattle.station.specs.Station.{source}
 use Rattle.station.specs.Stations.{freeMotor, indexOf, motorAt, withMotor, atPlace, told, movedAt, unmoved, heardAt, removedAt, enteredIn, admittedIn, registerBy, registerIn, startIn, stepIn, frameIn, removeIn}
-use Rattle.station.specs.Demands.{stillBy, still}
+use Rattle.station.specs.Demands.{still, number}
 use Rattle.station.proofs.Contracts.{Request, registering, starting, stepping, receiving, looking, removing}
 use Rattle.station.proofs.Contracts.{answerIn, next, given}
 use Rattle.station.proofs.Elsewhere.{either, at-place}
-use Rattle.station.proofs.Refused.{not-true, said-moves}
+use Rattle.station.proofs.Refused.{said-moves, told-moves}
 
 -- ---- a motor refused by such a number is the same value
 
@@ -120,19 +120,14 @@ refused-still : (st : Station) (r : Refusal) → ToldStill st (told st (checked.
 refused-still st r e = refl
 
 passed-still : (st after : Station) → ToldStill st (told after checked.Passed)
-unfolding still answered
+unfolding still number among answered
 passed-still st after e = absurd (true≢false (sym e))
 
 moved-still : (st : Station) (i : ℕ) (a : Answered) → (moves (a .said) ≡ false → a .motor ≡ motorAt st i) → MovedStill st (movedAt st i a)
 moved-still st i a same e = put-back st i (a .motor) (same (said-moves (a .said) (a .frame) (a .result) e))
 
 heard-still : (st : Station) (i : ℕ) (h : Heard) → (heardMoves (h .said) ≡ false → h .motor ≡ motorAt st i) → ToldStill st (heardAt st i h)
-unfolding still stillBy answered
-heard-still st i h same e = put-back st i (h .motor) (same (go (h .said) e))
-  where
-    go : (w : Checked) → still (answered w) ≡ true → heardMoves w ≡ false
-    go checked.Passed e = absurd (true≢false (sym e))
-    go (checked.Refused r) e = not-true (movesBy r) e
+heard-still st i h same e = put-back st i (h .motor) (same (told-moves (h .said) e))
 
 start-still : (st : Station) (id : ℕ) (c : Command) (now : ℕ) → MovedStill st (startIn st id c now)
 unfolding startIn

@@ -7,7 +7,6 @@ use mathlib.Core.Option.{none, some}
 use lib.ListN.{length, take}
 use Rattle.codec.specs.declared.bus.CanFrame.{CanFrame}
 use Rattle.codec.specs.declared.error.Checked.the-variants as checked
-use Rattle.codec.specs.declared.error.Refusal.{Refusal}
 use Rattle.codec.specs.declared.model.Model.{Model}
 use Rattle.codec.specs.declared.model.ModelNamed.the-variants as named
 use Rattle.codec.specs.Kinds.{among}
@@ -77,20 +76,6 @@ pub record Demand3 : Type 0 where
 
 -- ---- demand 1
 
--- refused by a number other than 14 to 18 and 20
-unfoldable pub stillBy : Refusal → Bool
-stillBy r = not (among (numberOf r) (14 ∷ 15 ∷ 16 ∷ 17 ∷ 18 ∷ 20 ∷ []))
-
-unfoldable pub still : Answer → Bool
-still ok = false
-still (no r) = stillBy r
-still (says (said.Sent due) f b) = false
-still (says (said.Waiting due) f b) = false
-still (says (said.Finished r) f b) = false
-still (says (said.FinishedWith r) f b) = false
-still (says (said.Refused r) f b) = stillBy r
-still (shows v) = false
-
 -- the number by which an answer refuses, 0 where it doesn't
 unfoldable pub number : Answer → ℕ
 number ok = 0
@@ -101,6 +86,10 @@ number (says (said.Finished r) f b) = 0
 number (says (said.FinishedWith r) f b) = 0
 number (says (said.Refused r) f b) = numberOf r
 number (shows v) = 0
+
+-- refused by a number other than 14 to 18 and 20
+unfoldable pub still : Answer → Bool
+still a = not (among (number a) (0 ∷ 14 ∷ 15 ∷ 16 ∷ 17 ∷ 18 ∷ 20 ∷ []))
 
 -- the numbers that a call may get, 0 with them: those of its tests, in their order, and of a step those by which an operation fails
 unfoldable pub numbersOf : Call → List ℕ
