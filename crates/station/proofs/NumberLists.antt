@@ -32,6 +32,7 @@ of-each p n (x ∷ xs) h e = go (eqb x n) refl (of-each p n xs (both .1))
     go true q ih = ap p (sym (same-id x n q)) ∙ both .0
     go false q ih = ih (rw q at e)
 
+-- and so it is in no list that shares none of them
 pub outside : (n : ℕ) (xs ys : List ℕ) → every (λ k. not (among k ys)) xs ≡ true → among n xs ≡ true → among n ys ≡ false
 outside n xs ys h e = sym (Bool·not-not (among n ys)) ∙ ap not (of-each (λ k. not (among k ys)) n xs h e)
 

@@ -1,4 +1,4 @@
--- A start's numbers: its tests refuse by their own, and an operation begins with a frame, never with a refusal. Assumes nothing.
+-- A start's numbers are those of its tests: once these pass, no operation begins with a refusal. Assumes nothing.
 use Prim.Native.Nat.{ℕ}
 use mathlib.Core.Path.{_≡_, refl, ap}
 use mathlib.Core.Bool.{Bool, true, false, true≢false, cond, not}
@@ -49,6 +49,7 @@ use Rattle.station.proofs.NumberLists.{checkedNumber, of-first}
 abbrev pub startNumbers : List ℕ
 startNumbers = 0 ∷ 6 ∷ 7 ∷ 8 ∷ 9 ∷ 2 ∷ 19 ∷ 12 ∷ 10 ∷ 11 ∷ []
 
+-- said: no refusal
 abbrev Goes : Said → Type 0
 Goes (said.Sent due) = Unit {0}
 Goes (said.Waiting due) = Unit {0}
@@ -87,7 +88,7 @@ written-number (info.Listed kind) v = go (eqb (kindNumber kind) (kindNumber (kin
     go true = refl
     go false = refl
 
--- entered, a node that neither fails nor writes what the encoder refuses
+-- a node that fails; entered, another one whose write the encoder takes refuses nothing
 abbrev isFail : Node → Bool
 isFail (node.Finish r) = false
 isFail node.Report = false
@@ -112,12 +113,13 @@ entered-goes s now (node.Await w window whom) e g = tt
 entered-goes s now (node.Motion p v kp kd t r) e g = tt
 entered-goes s now (node.Rename new) e g = tt
 
+-- 2, 19 and 12
 one : (b : Bool) (r : Refusal) → among (numberOf r) startNumbers ≡ true → among (checkedNumber (firstOf ((b, r) ∷ []))) startNumbers ≡ true
 unfolding among
 one true r h = h
 one false r h = refl
 
--- each command's tests, and how its operation begins
+-- each command: what its tests refuse by, and that its operation doesn't begin with a failure
 begun : (c : Command) → (among (checkedNumber (arguedOf c)) startNumbers ≡ true) × (isFail (begins c) ≡ false)
 unfolding among
 begun (command.Ping timeout) = (refl, refl)
