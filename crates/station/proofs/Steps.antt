@@ -66,7 +66,7 @@ none-of (some a) e = absurd (true≢false e)
 
 -- ---- the motor that accepts a frame
 
-and-true : (a b : Bool) → a && b ≡ true → (a ≡ true) × (b ≡ true)
+pub and-true : (a b : Bool) → a && b ≡ true → (a ≡ true) × (b ≡ true)
 and-true true b e = (refl, e)
 and-true false b e = absurd (true≢false (sym e))
 
@@ -220,7 +220,7 @@ call-distinct s (remove i now) d = route-distinct s i (held s i) refusal.IdNotRe
 
 -- ---- a registration that isn't refused holds a new motor; one that passes the tests isn't refused
 
-no-ok : {A : Type 0} (r : Refusal) → no r ≡ ok → A
+pub no-ok : {A : Type 0} (r : Refusal) → no r ≡ ok → A
 unfolding isOk
 no-ok {A} r e = absurd (true≢false (sym (ap isOk e)))
 

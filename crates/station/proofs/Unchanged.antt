@@ -1,11 +1,12 @@
--- Demand 1 over the functions' own contracts: refused by a number other than 14 to 18 and 20, a call returns the station that it was
--- given, the same value. Assumes nothing.
-use Prim.Native.Nat.{ℕ, zero, suc}
-use mathlib.Core.Path.{_≡_, refl, sym, ap, _∙_, subst}
-use mathlib.Core.Bool.{Bool, true, false, true≢false, cond, or-true, _||_}
+-- Refused by a number other than 14 to 18 and 20, a call returns the station that it was given, the same value: by the functions'
+-- first clauses, on any station. Assumes nothing.
+use Prim.Native.Nat.{ℕ}
+use mathlib.Core.Path.{_≡_, refl, sym, ap, _∙_}
+use mathlib.Core.Bool.{Bool, true, false, true≢false, or-true, _||_}
 use mathlib.Core.List.{List, [], _∷_}
 use lib.Dec.{eqb, ltb}
-use lib.ListN.{getD, set}
+use lib.Seq.{set-getD}
+use lib.ListN.{set}
 use Rattle.codec.specs.declared.bus.CanFrame.{CanFrame}
 use Rattle.codec.specs.declared.error.Checked.{Checked}
 use Rattle.codec.specs.declared.error.Checked.the-variants as checked
@@ -32,18 +33,18 @@ use Rattle.motor.specs.Motors.{newMotor, startBy, startOf, stepBy, stepOf, remo
 use Rattle.motor.specs.Readings.{findOf, putOf}
 use Rattle.motor.specs.Receive.{accepts, late, readId, readStored, frameSaid, stateAfter, readingsAfter, isFull, heardOf}
 use Rattle.motor.proofs.Ends.{Closed, begin-ends, advance-ends}
-use Rattle.motor.proofs.Stays.{movesBy, moves, heardMoves, argued-passed, running}
+use Rattle.motor.proofs.Stays.{moves, heardMoves, argued-passed, running}
 use Rattle.station.specs.declared.station.Station.{Station}
 use Rattle.station.specs.declared.station.Moved.{Moved}
 use Rattle.station.specs.declared.station.Told.{Told}
 use Rattle.station.specs.Calls.{says, answered}
 use Rattle.station.specs.Station.{source}
-use Rattle.station.specs.Stations.{freeMotor, indexOf, takenPlace, motorAt, withMotor, atPlace, told, movedAt, unmoved, heardAt, removedAt, enteredIn, admittedIn, registerBy, registerIn, startIn, stepIn, frameIn, removeIn}
-use Rattle.station.specs.Demands.{stillBy, still}
-use Rattle.station.proofs.Promised.{Request, registering, starting, stepping, receiving, looking, removing}
-use Rattle.station.proofs.Promised.{Out, moved, looked, answerIn, next, Gives}
-use Rattle.station.proofs.Promised.{told as tells}
-use Rattle.station.proofs.Refused.{not-true, said-moves}
+use Rattle.station.specs.Stations.{freeMotor, indexOf, motorAt, withMotor, atPlace, told, movedAt, unmoved, heardAt, removedAt, enteredIn, admittedIn, registerBy, registerIn, startIn, stepIn, frameIn, removeIn}
+use Rattle.station.specs.Demands.{still, number}
+use Rattle.station.proofs.Contracts.{Request, registering, starting, stepping, receiving, looking, removing}
+use Rattle.station.proofs.Contracts.{answerIn, next, given}
+use Rattle.station.proofs.Elsewhere.{either, at-place}
+use Rattle.station.proofs.Refused.{said-moves, told-moves}
 
 -- ---- a motor refused by such a number is the same value
 
@@ -102,14 +103,9 @@ heard-kept y f now =
 
 -- ---- put back, it leaves the station the same value
 
-set-same : (xs : List Motor) (i : ℕ) (d : Motor) → set xs i (getD xs i d) ≡ xs
-set-same [] i d = refl
-set-same (x ∷ xs) zero d = refl
-set-same (x ∷ xs) (suc i) d = ap {B = List Motor} (λ l. x ∷ l) (set-same xs i d)
-
 put-back : (st : Station) (i : ℕ) (y : Motor) → y ≡ motorAt st i → withMotor st i y ≡ st
 put-back st i y e =
-    ap {B = Station} (λ (l : List Motor). record { motors = l }) (ap (λ (m : Motor). set (st .motors) i m) e ∙ set-same (st .motors) i freeMotor)
+    ap {B = Station} (λ (l : List Motor). record { motors = l }) (ap (λ (m : Motor). set (st .motors) i m) e ∙ set-getD (st .motors) i freeMotor)
 
 -- ---- the six calls
 
@@ -120,45 +116,31 @@ MovedStill st r = still (says (r .said) (r .frame) (r .result)) ≡ true → r .
 abbrev ToldStill : Station → Told → Type 0
 ToldStill st r = still (answered (r .said)) ≡ true → r .station ≡ st
 
-either : {A : Type 0} (P : A → Type 0) (b : Bool) (x y : A) → P x → P y → P (cond b x y)
-either P true x y p q = p
-either P false x y p q = q
-
-at-place : {A : Type 0} (P : A → Type 0) (st : Station) (id : ℕ) (found : ℕ → A) (none : A) → ((i : ℕ) → P (found i)) → P none → P (atPlace st id found none)
-unfolding atPlace
-at-place P st id found none p q =
-    either P (ltb (takenPlace (st .motors) id) 8) (found (takenPlace (st .motors) id)) none (p (takenPlace (st .motors) id)) q
-
 refused-still : (st : Station) (r : Refusal) → ToldStill st (told st (checked.Refused r))
 refused-still st r e = refl
 
 passed-still : (st after : Station) → ToldStill st (told after checked.Passed)
-unfolding still answered
+unfolding still number among answered
 passed-still st after e = absurd (true≢false (sym e))
 
 moved-still : (st : Station) (i : ℕ) (a : Answered) → (moves (a .said) ≡ false → a .motor ≡ motorAt st i) → MovedStill st (movedAt st i a)
 moved-still st i a same e = put-back st i (a .motor) (same (said-moves (a .said) (a .frame) (a .result) e))
 
 heard-still : (st : Station) (i : ℕ) (h : Heard) → (heardMoves (h .said) ≡ false → h .motor ≡ motorAt st i) → ToldStill st (heardAt st i h)
-unfolding still stillBy answered
-heard-still st i h same e = put-back st i (h .motor) (same (go (h .said) e))
-  where
-    go : (w : Checked) → still (answered w) ≡ true → heardMoves w ≡ false
-    go checked.Passed e = absurd (true≢false (sym e))
-    go (checked.Refused r) e = not-true (movesBy r) e
+heard-still st i h same e = put-back st i (h .motor) (same (told-moves (h .said) e))
 
 start-still : (st : Station) (id : ℕ) (c : Command) (now : ℕ) → MovedStill st (startIn st id c now)
 unfolding startIn
 start-still st id c now =
     at-place (MovedStill st) st id (λ i. movedAt st i (startOf (motorAt st i) c now)) (unmoved st)
-    (λ i. moved-still st i (startOf (motorAt st i) c now) (start-kept (motorAt st i) c now))
+    (λ i p. moved-still st i (startOf (motorAt st i) c now) (start-kept (motorAt st i) c now))
     (λ e. refl)
 
 step-still : (st : Station) (id now : ℕ) → MovedStill st (stepIn st id now)
 unfolding stepIn
 step-still st id now =
     at-place (MovedStill st) st id (λ i. movedAt st i (stepOf (motorAt st i) now)) (unmoved st)
-    (λ i. moved-still st i (stepOf (motorAt st i) now) (step-kept (motorAt st i) now))
+    (λ i p. moved-still st i (stepOf (motorAt st i) now) (step-kept (motorAt st i) now))
     (λ e. refl)
 
 frame-still : (st : Station) (f : CanFrame) (now : ℕ) → ToldStill st (frameIn st f now)
@@ -167,7 +149,7 @@ frame-still st f now =
     let other = told st (checked.Refused refusal.FrameNotAccepted) in
     either (ToldStill st) (accepts (source f) f) (atPlace st (source f) (λ i. heardAt st i (heardOf (motorAt st i) f now)) other) other
     (at-place (ToldStill st) st (source f) (λ i. heardAt st i (heardOf (motorAt st i) f now)) other
-    (λ i. heard-still st i (heardOf (motorAt st i) f now) (heard-kept (motorAt st i) f now))
+    (λ i p. heard-still st i (heardOf (motorAt st i) f now) (heard-kept (motorAt st i) f now))
     (refused-still st refusal.FrameNotAccepted))
     (refused-still st refusal.FrameNotAccepted)
 
@@ -179,7 +161,7 @@ remove-still : (st : Station) (id now : ℕ) → ToldStill st (removeIn st id no
 unfolding removeIn
 remove-still st id now =
     at-place (ToldStill st) st id (λ i. removedAt (removalOf (motorAt st i) now) st i) (told st (checked.Refused refusal.IdNotRegistered))
-    (λ i. removed-still (removalOf (motorAt st i) now) st i)
+    (λ i p. removed-still (removalOf (motorAt st i) now) st i)
     (refused-still st refusal.IdNotRegistered)
 
 entered-still : (st : Station) (m : Motor) → ToldStill st (enteredIn st m)
@@ -193,7 +175,7 @@ admitted-still : (st : Station) (id host : ℕ) (model : Model) (wait time : ℕ
 unfolding admittedIn
 admitted-still st id host model wait time =
     at-place (ToldStill st) st id (λ i. told st (checked.Refused refusal.IdRegistered)) (enteredIn st (newMotor id host model wait time))
-    (λ i. refused-still st refusal.IdRegistered)
+    (λ i p. refused-still st refusal.IdRegistered)
     (entered-still st (newMotor id host model wait time))
 
 registered-still : (k : Admission) (st : Station) (id host wait time : ℕ) → ToldStill st (registerBy k st id host wait time)
@@ -204,31 +186,11 @@ register-still : (st : Station) (id host : ℕ) (model : ModelNamed) (wait time 
 unfolding registerIn
 register-still st id host model wait time = registered-still (registrationOf id host model wait time) st id host wait time
 
--- ---- by the contracts
-
-pub record CodeDemand1 : Type 0 where
-  pub refused : (st : Station) (q : Request) (o : Out) → Gives st q o → still (answerIn o) ≡ true → next st o ≡ st
-
-code-refused : (st : Station) (q : Request) (o : Out) → Gives st q o → still (answerIn o) ≡ true → next st o ≡ st
-unfolding answerIn next
-code-refused st (registering κ m h n w t) (moved r) g = absurd g
-code-refused st (registering κ m h n w t) (tells r) g = subst (ToldStill st) (sym (g .0)) (register-still st m h _ w t)
-code-refused st (registering κ m h n w t) (looked r) g = absurd g
-code-refused st (starting m c t) (moved r) g = subst (MovedStill st) (sym (g .0)) (start-still st m c t)
-code-refused st (starting m c t) (tells r) g = absurd g
-code-refused st (starting m c t) (looked r) g = absurd g
-code-refused st (stepping m t) (moved r) g = subst (MovedStill st) (sym (g .0)) (step-still st m t)
-code-refused st (stepping m t) (tells r) g = absurd g
-code-refused st (stepping m t) (looked r) g = absurd g
-code-refused st (receiving f t) (moved r) g = absurd g
-code-refused st (receiving f t) (tells r) g = subst (ToldStill st) (sym (g .0)) (frame-still st f t)
-code-refused st (receiving f t) (looked r) g = absurd g
-code-refused st (looking m) (moved r) g = absurd g
-code-refused st (looking m) (tells r) g = absurd g
-code-refused st (looking m) (looked r) g = λ e. refl
-code-refused st (removing m t) (moved r) g = absurd g
-code-refused st (removing m t) (tells r) g = subst (ToldStill st) (sym (g .0)) (remove-still st m t)
-code-refused st (removing m t) (looked r) g = absurd g
-
-pub code-demand1 : CodeDemand1
-code-demand1 = record { refused = code-refused }
+pub given-still : (st : Station) (q : Request) → still (answerIn (given st q)) ≡ true → next st (given st q) ≡ st
+unfolding given answerIn next
+given-still st (registering κ m h n w t) = register-still st m h _ w t
+given-still st (starting m c t) = start-still st m c t
+given-still st (stepping m t) = step-still st m t
+given-still st (receiving f t) = frame-still st f t
+given-still st (looking m) = λ e. refl
+given-still st (removing m t) = remove-still st m t

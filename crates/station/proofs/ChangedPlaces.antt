@@ -1,0 +1,159 @@
+-- What 14 and 15, what 16, 17, 18 and 20, and what a removal change of the motor at their place: by the functions' first clauses, on
+-- any station. Assumes nothing.
+use Prim.Native.Nat.{ℕ}
+use mathlib.Core.Path.{_≡_, refl, sym, ap, _∙_, subst}
+use mathlib.Core.Bool.{true, true≢false}
+use mathlib.Core.List.{List, [], _∷_}
+use Rattle.codec.specs.declared.bus.CanFrame.{CanFrame}
+use Rattle.codec.specs.declared.error.Checked.{Checked}
+use Rattle.codec.specs.declared.error.Checked.the-variants as checked
+use Rattle.codec.specs.declared.error.Refusal.the-variants as refusal
+use Rattle.codec.specs.Kinds.{among}
+use Rattle.engine.specs.declared.command.Said.{Said}
+use Rattle.engine.specs.declared.command.Said.the-variants as said
+use Rattle.engine.specs.declared.operation.Effect.{Effect}
+use Rattle.engine.specs.declared.operation.Effect.the-variants as effect
+use Rattle.engine.specs.declared.operation.Operation.{Operation}
+use Rattle.engine.specs.declared.operation.Phase.{Phase}
+use Rattle.engine.specs.Run.{idle, advance}
+use Rattle.engine.proofs.Choices.{cond-yes}
+use Rattle.motor.specs.declared.motor.Motor.{Motor}
+use Rattle.motor.specs.declared.motor.State.{State}
+use Rattle.motor.specs.declared.readings.Readings.{Readings}
+use Rattle.motor.specs.Calls.{isIdle, stepSaid, noCommand, sightOf, movedBy, readingsBy, wanted}
+use Rattle.motor.specs.Motors.{stepBy, stepOf, removalOf}
+use Rattle.motor.specs.Readings.{findOf, putOf, dropOf}
+use Rattle.motor.specs.Receive.{accepts, late, counted, readId, readStored, frameSaid, stateAfter, readingsAfter, isFull, heardOf}
+use Rattle.motor.proofs.Ends.{Closed, advance-ends}
+use Rattle.motor.proofs.Stays.{Stays, step-stays, running}
+use Rattle.station.specs.declared.station.Station.{Station}
+use Rattle.station.specs.declared.station.Moved.{Moved}
+use Rattle.station.specs.declared.station.Told.{Told}
+use Rattle.station.specs.Calls.{ok, says, answered}
+use Rattle.station.specs.Station.{source}
+use Rattle.station.specs.Stations.{freeMotor, takenPlace, motorAt, withMotor, atPlace, told, movedAt, unmoved, heardAt, removedAt, stepIn, frameIn, removeIn}
+use Rattle.station.specs.Demands.{number}
+use Rattle.station.proofs.Contracts.{stepping, receiving, removing, Out, answerIn, next, Gives, given, gives-given}
+use Rattle.station.proofs.Elsewhere.{either, at-place, placeFor}
+use Rattle.station.proofs.Changed.{moving}
+use Rattle.station.proofs.Steps.{no-ok}
+
+-- the motor at a place with the clock at this time, and its response count raised, or its operation over
+abbrev pub raisedAt : Station → ℕ → ℕ → Station
+raisedAt st i now = withMotor st i (record { state = counted (motorAt st i .state) now; readings = motorAt st i .readings })
+
+abbrev pub failedAt : Station → ℕ → ℕ → Station
+failedAt st i now =
+    withMotor st i (record { state = movedBy (motorAt st i .state) now noCommand idle effect.Nothing; readings = motorAt st i .readings })
+
+-- ---- 14 and 15
+
+motor-counted : (y : Motor) (f : CanFrame) (now : ℕ) → among (number (answered (heardOf y f now .said))) (14 ∷ 15 ∷ []) ≡ true
+    → _≡_ {A = Motor} (heardOf y f now .motor) (record { state = counted (y .state) now; readings = y .readings })
+unfolding heardOf stateAfter readingsAfter number answered among
+motor-counted y f now =
+    let put = putOf (y .readings) (readId f) (readStored f) in
+    go (frameSaid (y .state) f now (isFull (put .said))) (put .readings)
+  where
+    go : (k : Checked) (new : Readings) → among (number (answered k)) (14 ∷ 15 ∷ []) ≡ true
+        → _≡_ {A = Motor} (record { state = stateAfter k (y .state) f now; readings = readingsAfter k f new (y .readings) })
+        (record { state = counted (y .state) now; readings = y .readings })
+    go checked.Passed new e = absurd (true≢false (sym e))
+    go (checked.Refused r) new e =
+        ap {B = Motor} (λ (a : State). record { state = a; readings = y .readings }) (cond-yes (counted (y .state) now) (y .state) e)
+
+module _ (st : Station) (f : CanFrame) (now : ℕ) where
+  abbrev Raised : Told → Type 0
+  Raised r = among (number (answered (r .said))) (14 ∷ 15 ∷ []) ≡ true → r .station ≡ raisedAt st (takenPlace (st .motors) (source f)) now
+
+  frame-raised : Raised (frameIn st f now)
+  unfolding frameIn number answered among
+  frame-raised =
+      let other = told st (checked.Refused refusal.FrameNotAccepted) in
+      let found : ℕ → Told = λ i. heardAt st i (heardOf (motorAt st i) f now) in
+      either Raised (accepts (source f) f) (atPlace st (source f) found other) other
+      (at-place Raised st (source f) found other
+      (λ i p e. ap (λ (y : Motor). withMotor st i y) (motor-counted (motorAt st i) f now e) ∙ ap (λ (j : ℕ). raisedAt st j now) p)
+      (λ e. absurd (true≢false (sym e))))
+      (λ e. absurd (true≢false (sym e)))
+
+  pub place-counted : (o : Out) → Gives st (receiving f now) o → among (number (answerIn o)) (14 ∷ 15 ∷ []) ≡ true
+      → next st o ≡ raisedAt st (placeFor st (receiving f now)) now
+  unfolding given answerIn next placeFor
+  place-counted o g =
+      subst (λ (x : Out). among (number (answerIn x)) (14 ∷ 15 ∷ []) ≡ true → next st x ≡ raisedAt st (takenPlace (st .motors) (source f)) now)
+      (gives-given st (receiving f now) o g)
+      frame-raised
+
+-- ---- 16, 17, 18 and 20
+
+motor-ended : (y : Motor) (now : ℕ) → among (number (says (stepOf y now .said) (stepOf y now .frame) (stepOf y now .result))) (16 ∷ 17 ∷ 18 ∷ 20 ∷ []) ≡ true
+    → _≡_ {A = Motor} (stepOf y now .motor) (record { state = movedBy (y .state) now noCommand idle effect.Nothing; readings = y .readings })
+unfolding number among
+motor-ended y now = go (stepSaid (y .state .clock) p now) refl (step-stays (y .state .clock) p now)
+  where
+    p : Phase
+    p = y .state .operation .phase
+
+    after : Operation → Effect → Motor
+    after op x = record { state = movedBy (y .state) now (y .state .command) op x; readings = readingsBy x (λ id. dropOf (y .readings) id) (y .readings) }
+
+    over : (w : Said) (op : Operation) (x : Effect) (f : CanFrame) (b : List ℕ) → Closed w op x → among (number (says w f b)) (16 ∷ 17 ∷ 18 ∷ 20 ∷ []) ≡ true
+        → after op x ≡ after idle effect.Nothing
+    over (said.Sent due) op x f b h e = absurd (true≢false (sym e))
+    over (said.Waiting due) op x f b h e = absurd (true≢false (sym e))
+    over (said.Finished r) op x f b h e = absurd (true≢false (sym e))
+    over (said.FinishedWith r) op x f b h e = absurd (true≢false (sym e))
+    over (said.Refused r) op x f b h e = ap (λ (o : Operation). after o x) (h .1) ∙ ap (λ (z : Effect). after idle z) (h .2)
+
+    go : (k : Checked) → stepSaid (y .state .clock) p now ≡ k → Stays k
+        → among (number (says (stepBy k y now .said) (stepBy k y now .frame) (stepBy k y now .result))) (16 ∷ 17 ∷ 18 ∷ 20 ∷ []) ≡ true
+        → stepBy k y now .motor ≡ after idle effect.Nothing
+    go checked.Passed q s e =
+        let f = wanted p (λ id. findOf (y .readings) id) in
+        let v = advance (sightOf (y .state)) now (y .state .operation) f p in
+        over (v .said) (v .operation) (v .effect) (v .frame) (v .result)
+        (advance-ends (sightOf (y .state)) now (y .state .operation) f p (running (late (y .state .clock) now) (isIdle p) q)) e
+    go (checked.Refused r) q s e = absurd (true≢false (sym (moving r e) ∙ s))
+
+module _ (st : Station) (m now : ℕ) where
+  abbrev Failed : Moved → Type 0
+  Failed r = among (number (says (r .said) (r .frame) (r .result))) (16 ∷ 17 ∷ 18 ∷ 20 ∷ []) ≡ true → r .station ≡ failedAt st (takenPlace (st .motors) m) now
+
+  step-failed : Failed (stepIn st m now)
+  unfolding stepIn number among
+  step-failed =
+      at-place Failed st m (λ i. movedAt st i (stepOf (motorAt st i) now)) (unmoved st)
+      (λ i p e. ap (λ (y : Motor). withMotor st i y) (motor-ended (motorAt st i) now e) ∙ ap (λ (j : ℕ). failedAt st j now) p)
+      (λ e. absurd (true≢false (sym e)))
+
+  pub place-ended : (o : Out) → Gives st (stepping m now) o → among (number (answerIn o)) (16 ∷ 17 ∷ 18 ∷ 20 ∷ []) ≡ true
+      → next st o ≡ failedAt st (placeFor st (stepping m now)) now
+  unfolding given answerIn next placeFor
+  place-ended o g =
+      subst (λ (x : Out). among (number (answerIn x)) (16 ∷ 17 ∷ 18 ∷ 20 ∷ []) ≡ true → next st x ≡ failedAt st (takenPlace (st .motors) m) now)
+      (gives-given st (stepping m now) o g)
+      step-failed
+
+-- ---- a removal that isn't refused
+
+module _ (st : Station) (m now : ℕ) where
+  abbrev Freed : Told → Type 0
+  Freed r = answered (r .said) ≡ ok → r .station ≡ withMotor st (takenPlace (st .motors) m) freeMotor
+
+  removed-freed : (k : Checked) (i : ℕ) → i ≡ takenPlace (st .motors) m → Freed (removedAt k st i)
+  unfolding answered
+  removed-freed checked.Passed i p e = ap (λ (j : ℕ). withMotor st j freeMotor) p
+  removed-freed (checked.Refused r) i p e = no-ok r e
+
+  remove-freed : Freed (removeIn st m now)
+  unfolding removeIn answered
+  remove-freed =
+      at-place Freed st m (λ i. removedAt (removalOf (motorAt st i) now) st i) (told st (checked.Refused refusal.IdNotRegistered))
+      (λ i p. removed-freed (removalOf (motorAt st i) now) i p)
+      (λ e. no-ok refusal.IdNotRegistered e)
+
+  pub place-freed : (o : Out) → Gives st (removing m now) o → answerIn o ≡ ok → next st o ≡ withMotor st (placeFor st (removing m now)) freeMotor
+  unfolding given answerIn next placeFor
+  place-freed o g =
+      subst (λ (x : Out). answerIn x ≡ ok → next st x ≡ withMotor st (takenPlace (st .motors) m) freeMotor) (gives-given st (removing m now) o g) remove-freed
