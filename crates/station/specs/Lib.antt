@@ -3,3 +3,4 @@ pub mod Station
 pub mod Stations
 pub mod History
 pub mod Demands
+pub mod Examples
