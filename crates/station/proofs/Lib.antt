@@ -7,3 +7,7 @@ pub mod Clauses
 pub mod Refused
 pub mod Promised
 pub mod Unchanged
+pub mod Definitions
+pub mod EchoAtStation
+pub mod HeldReadings
+pub mod Demand2

@@ -26,7 +26,6 @@ use Rattle.engine.specs.declared.command.Command.the-variants as command
 use Rattle.engine.specs.declared.command.Outcome.the-variants as outcome
 use Rattle.engine.specs.declared.command.Said.the-variants as said
 use Rattle.engine.specs.declared.candidates.Candidates.{Candidates}
-use Rattle.engine.specs.declared.reading.Found.{Found}
 use Rattle.engine.specs.declared.reading.Found.the-variants as found
 use Rattle.engine.specs.Hosts.{candidatesOf}
 use Rattle.engine.specs.Requests.{noFrame}
@@ -34,13 +33,14 @@ use Rattle.engine.specs.Script.{isMode}
 use Rattle.motor.specs.declared.feedback.Latest.{Latest}
 use Rattle.motor.specs.declared.feedback.Latest.the-variants as latest
 use Rattle.motor.specs.Lone.{Lone, hears}
-use Rattle.motor.specs.Readings.{lookup, run}
+use Rattle.motor.specs.Readings.{run}
 use Rattle.motor.specs.Receive.{accepts, late, counted, pingAfter, feedbackIn, nextSequence, feedbackAfter, faultAfter, told, isRead, readStatus, readId, readStored, frameSaid, stateAfter, readingsAfter}
 use Rattle.motor.specs.Runs.{word, bytes, sending, received}
 use Rattle.station.specs.Calls.{Call, register, start, step, frame}
 use Rattle.station.specs.Calls.{Answer, ok, no, says, shows, answered, refuses}
 use Rattle.station.specs.Station.{Place, empty, held, isSome, full, add, put, place, movesTo, hearsTo, leaves, lone, route, admission, enter, admit, source, stationCall}
 use Rattle.station.specs.History.{after}
+use Rattle.station.specs.Demand2.{reading}
 
 -- ---- sessions
 
@@ -55,11 +55,7 @@ answers s (c ∷ cs) =
 unfoldable pub one : List Place
 one = after empty (register 1 0xFD (named.Known Rs00) 0 100 ∷ [])
 
--- what is held for a motor: the reading of a parameter, and of the feedback mode_state and device
-unfoldable pub reading : ℕ → Option Lone → Found
-reading id none = found.Nothing
-reading id (some h) = lookup id (h .readings)
-
+-- mode_state and device of the feedback that is held for a motor
 unfoldable pub flagsIn : Latest → List ℕ
 flagsIn latest.Nothing = []
 flagsIn (latest.State f) = f .«mode_state» ∷ f .«device_id» ∷ []

@@ -4,3 +4,5 @@ pub mod Stations
 pub mod History
 pub mod Demands
 pub mod Examples
+pub mod Definitions
+pub mod Demand2
