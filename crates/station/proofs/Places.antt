@@ -2,7 +2,7 @@
 use mathlib.Core.Path.{_≡_, refl, sym, ap, _∙_}
 use mathlib.Core.Bool.{Bool, true, false, true≢false}
 use mathlib.Core.List.{List, [], _∷_}
-use mathlib.Core.Option.{Option, none, some, Option·none-ne-some, Option·some-ne-none}
+use mathlib.Core.Option.{Option, none, some, Option·none-ne-some, Option·some-ne-none, Option·some-injective}
 use Prim.Native.Nat.{ℕ, zero, suc}
 use lib.Dec.{eqb, eqb→eq, eqb-refl, T}
 use lib.ListN.{replicate, length}
@@ -74,6 +74,17 @@ held-put (taken j k ∷ s) m h o d e = go (eqb j m) refl (held-put s m h o (d .1
     go : (b : Bool) → eqb j m ≡ b → (held s m ≡ some h → held (put s m o) m ≡ o) → held (put (taken j k ∷ s) m o) m ≡ o
     go true p ih = rw p (here o p)
     go false p ih = rw p (rw p (ih (rw p at e)))
+
+-- what is held put again
+pub put-held : (s : List Place) (m : ℕ) (h : Lone) → held s m ≡ some h → put s m (some h) ≡ s
+unfolding held put place
+put-held [] m h e = refl
+put-held (free ∷ s) m h e = ap {B = List Place} (λ l. free ∷ l) (put-held s m h e)
+put-held (taken j k ∷ s) m h e = go (eqb j m) refl (put-held s m h)
+  where
+    go : (b : Bool) → eqb j m ≡ b → (held s m ≡ some h → put s m (some h) ≡ s) → put (taken j k ∷ s) m (some h) ≡ taken j k ∷ s
+    go true p ih = rw p (ap {B = List Place} (λ x. taken j x ∷ s) (sym (Option·some-injective k h (rw p at e))))
+    go false p ih = rw p (ap {B = List Place} (λ l. taken j k ∷ l) (ih (rw p at e)))
 
 pub distinct-put : (s : List Place) (m : ℕ) (o : Option Lone) → Distinct s → Distinct (put s m o)
 unfolding put place

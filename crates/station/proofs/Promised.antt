@@ -1,100 +1,27 @@
--- Demand 3 over the functions' own contracts. `Reads.Post` of a function is what its contract promises, as the check has read it: a
--- contract that is weakened or dropped breaks this file. Assumes nothing.
+-- Demand 3 over the functions' own contracts, as the check has read them (Contracts). Assumes nothing.
 use mathlib.Core.Path.{_≡_, refl, sym, ap, _∙_, subst}
 use mathlib.Core.Bool.{cond}
 use mathlib.Core.List.{List, [], _∷_, map}
-use mathlib.Core.Option.{Option, none, some}
+use mathlib.Core.Option.{some}
 use Prim.Native.Nat.{ℕ, zero, suc, _≤_}
 use base.Fml.{Lft}
 use denote.Ref.{RefT, now}
 use lib.ListN.{length, take}
-use Rattle.codec.specs.declared.bus.CanFrame.{CanFrame}
 use Rattle.codec.specs.declared.error.Checked.the-variants as checked
-use Rattle.codec.specs.declared.error.Refusal.the-variants as refusal
 use Rattle.codec.specs.declared.model.ModelNamed.{ModelNamed}
 use Rattle.codec.specs.declared.model.ModelNamed.the-variants as named
 use Rattle.codec.specs.Models.{modelNamed}
-use Rattle.engine.specs.declared.command.Command.{Command}
-use Rattle.motor.specs.Lone.{Lone, loneLook}
 use Rattle.station.specs.declared.station.Station.{Station}
-use Rattle.station.specs.declared.station.Moved.{Moved}
-use Rattle.station.specs.declared.station.Told.{Told as Answered}
-use Rattle.station.specs.declared.station.Looked.{Looked}
-use Rattle.station.specs.Calls.{Call, register, start, step, frame, look, remove}
-use Rattle.station.specs.Calls.{Answer, ok, no, says, shows, answered, refuses}
-use Rattle.station.specs.Station.{Place, empty, held, Distinct, lone, route, admission, stationCall}
-use Rattle.station.specs.Stations.{lookIn, answerOf, Shows, ToldAs, MovedAs}
+use Rattle.station.specs.Calls.{Call, register}
+use Rattle.station.specs.Calls.{Answer, ok, says}
+use Rattle.station.specs.Station.{Place, empty, held, Distinct, admission, stationCall}
+use Rattle.station.specs.Stations.{Shows}
 use Rattle.station.specs.History.{Told, ofM, after, removes, story, own, history, alone, holds}
 use Rattle.station.specs.Demands.{Given, registers, made, Run, at, since}
-use Rattle.station.proofs.Meanings.{look-means}
 use Rattle.station.proofs.Places.{distinct-free}
 use Rattle.station.proofs.Steps.{opens}
 use Rattle.station.proofs.TwoRuns.{as-lone, same, after-distinct}
-use Rattle.station.proofs.station.new.Reads as new-reads
-use Rattle.station.proofs.station.register.Reads as register-reads
-use Rattle.station.proofs.station.start.Reads as start-reads
-use Rattle.station.proofs.station.step.Reads as step-reads
-use Rattle.station.proofs.station.frame.Reads as frame-reads
-use Rattle.station.proofs.station.look.Reads as look-reads
-use Rattle.station.proofs.station.remove.Reads as remove-reads
-
--- A call of one of the six functions with its arguments, and the call of document 01 that it is.
-pub data Request : Type 0 where
-  registering : (lifetime : Lft) (id host : ℕ) (name : RefT (List ℕ)) (wait time : ℕ) → Request
-  starting : (id : ℕ) (c : Command) (now : ℕ) → Request
-  stepping : (id now : ℕ) → Request
-  receiving : (f : CanFrame) (now : ℕ) → Request
-  looking : (id : ℕ) → Request
-  removing : (id now : ℕ) → Request
-
-unfoldable pub callOf : Request → Call
-callOf (registering κ m host name wait time) = register m host (modelNamed (now name)) wait time
-callOf (starting m c now) = start m c now
-callOf (stepping m now) = step m now
-callOf (receiving f now) = frame f now
-callOf (looking m) = look m
-callOf (removing m now) = remove m now
-
--- What a function returns, the answer that it is, and the station after it: a look returns none and changes none.
-pub data Out : Type 0 where
-  moved : Moved → Out
-  told : Answered → Out
-  looked : Looked → Out
-
-unfoldable pub answerIn : Out → Answer
-answerIn (moved r) = says (r .said) (r .frame) (r .result)
-answerIn (told r) = answered (r .said)
-answerIn (looked r) = answerOf r
-
-unfoldable pub next : Station → Out → Station
-next st (moved r) = r .station
-next st (told r) = r .station
-next st (looked r) = st
-
--- What the contracts promise of a new station, and of what a call returns.
-abbrev pub New : Station → Type 0
-New st = new-reads.Post tt tt st tt
-
-abbrev pub Gives : Station → Request → Out → Type 0
-Gives st (registering κ m h n w t) (moved r) = ⊥
-Gives st (registering κ m h n w t) (told r) =
-    register-reads.Post (κ, tt) (st, (m, (h, (n, (w, (t, tt)))))) r (st, (m, (h, (n, (w, (t, tt))))))
-Gives st (registering κ m h n w t) (looked r) = ⊥
-Gives st (starting m c t) (moved r) = start-reads.Post tt (st, (m, (c, (t, tt)))) r (st, (m, (c, (t, tt))))
-Gives st (starting m c t) (told r) = ⊥
-Gives st (starting m c t) (looked r) = ⊥
-Gives st (stepping m t) (moved r) = step-reads.Post tt (st, (m, (t, tt))) r (st, (m, (t, tt)))
-Gives st (stepping m t) (told r) = ⊥
-Gives st (stepping m t) (looked r) = ⊥
-Gives st (receiving f t) (moved r) = ⊥
-Gives st (receiving f t) (told r) = frame-reads.Post tt (st, (f, (t, tt))) r (st, (f, (t, tt)))
-Gives st (receiving f t) (looked r) = ⊥
-Gives st (looking m) (moved r) = ⊥
-Gives st (looking m) (told r) = ⊥
-Gives st (looking m) (looked r) = look-reads.Post tt (st, (m, tt)) r (st, (m, tt))
-Gives st (removing m t) (moved r) = ⊥
-Gives st (removing m t) (told r) = remove-reads.Post tt (st, (m, (t, tt))) r (st, (m, (t, tt)))
-Gives st (removing m t) (looked r) = ⊥
+use Rattle.station.proofs.Contracts.{Request, registering, callOf, Out, answerIn, next, New, Gives, seen, shown, Follows, follows, seen-is}
 
 -- A run of the code: what the calls return, each on the station that the last one returned.
 abbrev pub Ran : Station → List Request → List Out → Type 0
@@ -143,14 +70,6 @@ module _ {m : ℕ} {r : Given} (x : CodeRun m r) where
   unfoldable pub code-at : ℕ → Station
   code-at k = reached (next (ending (x .begin) (x .outs)) (x .out)) (x .outs-later) k
 
--- What a look at m shows: clock, counts, feedback, fault report, ping reply, readings, gains and operation.
-unfoldable pub seen : Station → ℕ → Answer
-seen st m = answerOf (lookIn st m)
-
-unfoldable pub shown : Option Lone → Answer
-shown none = no refusal.IdNotRegistered
-shown (some h) = shows (loneLook h)
-
 -- What Demand 3 says, of the code.
 module _ {m : ℕ} {r : Given} where
   pub record CodeAsLone (x : CodeRun m r) : Type 0 where
@@ -171,42 +90,6 @@ pub record CodeDemand3 : Type 0 where
   pub taken-in : (st : Station) → New st → (qs : List Request) (os : List Out) → Ran st qs os → (m : ℕ) (r : Given) (κ : Lft) (name : RefT (List ℕ))
       → modelNamed (now name) ≡ named.Known (r .model) → (o : Out) → Gives (ending st os) (registering κ m (r .host) name (r .wait) (r .time)) o
       → admission (after empty (map callOf qs)) m (r .host) (named.Known (r .model)) (r .wait) (r .time) ≡ checked.Passed → answerIn o ≡ ok
-
--- ---- a call of the code is a call of document 01
-
-abbrev Follows : Station → List Place → Request → Out → Type 0
-Follows st s q o = (answerIn o ≡ (stationCall s (callOf q)) .0) × Shows (next st o) ((stationCall s (callOf q)) .1)
-
-told-follows : (st : Station) (s : List Place) (q : Request) (r : Answered) → ToldAs r (stationCall s (callOf q)) → Follows st s q (told r)
-unfolding answerIn next
-told-follows st s q r a = (a .answer, a .station)
-
-moved-follows : (st : Station) (s : List Place) (q : Request) (r : Moved) → MovedAs r (stationCall s (callOf q)) → Follows st s q (moved r)
-unfolding answerIn next
-moved-follows st s q r a = (a .answer, a .station)
-
-follows : (st : Station) (s : List Place) (q : Request) (o : Out) → Shows st s → Gives st q o → Follows st s q o
-unfolding callOf answerIn next
-follows st s (registering κ m h n w t) (moved r) x g = absurd g
-follows st s (registering κ m h n w t) (told r) x g = told-follows st s (registering κ m h n w t) r (g .1 s x)
-follows st s (registering κ m h n w t) (looked r) x g = absurd g
-follows st s (starting m c t) (moved r) x g = moved-follows st s (starting m c t) r (g .1 s x)
-follows st s (starting m c t) (told r) x g = absurd g
-follows st s (starting m c t) (looked r) x g = absurd g
-follows st s (stepping m t) (moved r) x g = moved-follows st s (stepping m t) r (g .1 s x)
-follows st s (stepping m t) (told r) x g = absurd g
-follows st s (stepping m t) (looked r) x g = absurd g
-follows st s (receiving f t) (moved r) x g = absurd g
-follows st s (receiving f t) (told r) x g = told-follows st s (receiving f t) r (g .1 s x)
-follows st s (receiving f t) (looked r) x g = absurd g
-follows st s (looking m) (moved r) x g = absurd g
-follows st s (looking m) (told r) x g = absurd g
-follows st s (looking m) (looked r) x g =
-    let e = g .1 s x in
-    (ap (λ (a : Answer × List Place). a .0) e, subst (λ (a : Answer × List Place). Shows st (a .1)) e x)
-follows st s (removing m t) (moved r) x g = absurd g
-follows st s (removing m t) (told r) x g = told-follows st s (removing m t) r (g .1 s x)
-follows st s (removing m t) (looked r) x g = absurd g
 
 -- ---- and so are whole lists of them
 
@@ -238,15 +121,6 @@ end-is st s [] [] x g = x
 end-is st s [] (o ∷ os) x g = absurd g
 end-is st s (q ∷ qs) [] x g = absurd g
 end-is st s (q ∷ qs) (o ∷ os) x g = end-is (next st o) ((stationCall s (callOf q)) .1) qs os (follows st s q o x (g .0) .1) (g .1)
-
--- a look shows what is held
-seen-is : (st : Station) (s : List Place) (m : ℕ) → Shows st s → seen st m ≡ shown (held s m)
-unfolding seen shown stationCall route refuses lone
-seen-is st s m x = ap (λ (a : Answer × List Place). a .0) (look-means st s x m) ∙ go (held s m)
-  where
-    go : (o : Option Lone) → (route s m o refusal.IdNotRegistered (look m)) .0 ≡ shown o
-    go none = refl
-    go (some h) = refl
 
 module _ {m : ℕ} {r : Given} (x : CodeRun m r) where
   -- the station before the registration, and the registration

@@ -21,8 +21,9 @@ use Rattle.station.specs.Calls.{Call, register, start, step, frame, look
 use Rattle.station.specs.Calls.{Answer, ok, no, says, shows, answered, refuses}
 use Rattle.station.specs.Station.{Place, held, put, Distinct, movesTo, hearsTo, leaves, lone, route, admission, enter, admit, source, stationCall}
 use Rattle.station.specs.Demands.{stillBy, still, Demand1}
-use Rattle.station.proofs.Meanings.{put-held}
-use Rattle.station.proofs.Places.{held-put}
+use Rattle.station.proofs.Changed.{frame-counted, step-ended}
+use Rattle.station.proofs.Numbers.{call-numbers, start-none, frame-none}
+use Rattle.station.proofs.Places.{held-put, put-held}
 use Rattle.station.proofs.Steps.{other}
 
 pub not-true : (b : Bool) → not b ≡ true → b ≡ false
@@ -127,4 +128,14 @@ removed s m now d e = by-held (held s m) refl e
     by-held (some h) q e = left h q (loneRemoval h now) e
 
 pub demand1 : Demand1
-demand1 = record { refused = call-still; others = other; freed = removed }
+demand1 =
+    record {
+      refused = call-still;
+      others = other;
+      freed = removed;
+      counted = frame-counted;
+      ended = step-ended;
+      numbers = call-numbers;
+      start-numbers = start-none;
+      frame-numbers = frame-none;
+    }

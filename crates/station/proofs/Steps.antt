@@ -66,7 +66,7 @@ none-of (some a) e = absurd (true≢false e)
 
 -- ---- the motor that accepts a frame
 
-and-true : (a b : Bool) → a && b ≡ true → (a ≡ true) × (b ≡ true)
+pub and-true : (a b : Bool) → a && b ≡ true → (a ≡ true) × (b ≡ true)
 and-true true b e = (refl, e)
 and-true false b e = absurd (true≢false (sym e))
 

@@ -1,11 +1,12 @@
 -- Demand 1 over the functions' own contracts: refused by a number other than 14 to 18 and 20, a call returns the station that it was
 -- given, the same value. Assumes nothing.
-use Prim.Native.Nat.{ℕ, zero, suc}
+use Prim.Native.Nat.{ℕ}
 use mathlib.Core.Path.{_≡_, refl, sym, ap, _∙_, subst}
-use mathlib.Core.Bool.{Bool, true, false, true≢false, cond, or-true, _||_}
+use mathlib.Core.Bool.{Bool, true, false, true≢false, or-true, _||_}
 use mathlib.Core.List.{List, [], _∷_}
 use lib.Dec.{eqb, ltb}
-use lib.ListN.{getD, set}
+use lib.Seq.{set-getD}
+use lib.ListN.{set}
 use Rattle.codec.specs.declared.bus.CanFrame.{CanFrame}
 use Rattle.codec.specs.declared.error.Checked.{Checked}
 use Rattle.codec.specs.declared.error.Checked.the-variants as checked
@@ -36,14 +37,18 @@ use Rattle.motor.proofs.Stays.{movesBy, moves, heardMoves, argued-passed, runni
 use Rattle.station.specs.declared.station.Station.{Station}
 use Rattle.station.specs.declared.station.Moved.{Moved}
 use Rattle.station.specs.declared.station.Told.{Told}
-use Rattle.station.specs.Calls.{says, answered}
-use Rattle.station.specs.Station.{source}
-use Rattle.station.specs.Stations.{freeMotor, indexOf, takenPlace, motorAt, withMotor, atPlace, told, movedAt, unmoved, heardAt, removedAt, enteredIn, admittedIn, registerBy, registerIn, startIn, stepIn, frameIn, removeIn}
-use Rattle.station.specs.Demands.{stillBy, still}
-use Rattle.station.proofs.Promised.{Request, registering, starting, stepping, receiving, looking, removing}
-use Rattle.station.proofs.Promised.{Out, moved, looked, answerIn, next, Gives}
-use Rattle.station.proofs.Promised.{told as tells}
-use Rattle.station.proofs.Refused.{not-true, said-moves}
+use Rattle.station.specs.Stations.{freeMotor, indexOf, motorAt, withMotor, atPlace, told, movedAt, unmoved, heardAt, removedAt, enteredIn, admittedIn, registerBy, registerIn, startIn, stepIn, frameIn, removeIn}
+use Rattle.station.proofs.Contracts.{Request, registering, starting, stepping, receiving, looking, removing}
+use mathlib.Core.Option.{Option, none, some}
+use Rattle.motor.specs.Lone.{Lone, loneLook}
+use Rattle.station.specs.Calls.{Answer, ok, no, says, shows, answered}
+use Rattle.station.specs.Station.{Place, held, Distinct, source, stationCall}
+use Rattle.station.specs.Stations.{Shows}
+use Rattle.station.specs.History.{mine}
+use Rattle.station.specs.Demands.{stillBy, still, number, numbersOf, raised, failed}
+use Rattle.station.proofs.Contracts.{callOf, Out, answerIn, next, Gives, given, gives-given, seen, shown, follows, seen-is}
+use Rattle.station.proofs.Elsewhere.{either, at-place, placeFor, elsewhere}
+use Rattle.station.proofs.Refused.{not-true, said-moves, demand1}
 
 -- ---- a motor refused by such a number is the same value
 
@@ -102,14 +107,9 @@ heard-kept y f now =
 
 -- ---- put back, it leaves the station the same value
 
-set-same : (xs : List Motor) (i : ℕ) (d : Motor) → set xs i (getD xs i d) ≡ xs
-set-same [] i d = refl
-set-same (x ∷ xs) zero d = refl
-set-same (x ∷ xs) (suc i) d = ap {B = List Motor} (λ l. x ∷ l) (set-same xs i d)
-
 put-back : (st : Station) (i : ℕ) (y : Motor) → y ≡ motorAt st i → withMotor st i y ≡ st
 put-back st i y e =
-    ap {B = Station} (λ (l : List Motor). record { motors = l }) (ap (λ (m : Motor). set (st .motors) i m) e ∙ set-same (st .motors) i freeMotor)
+    ap {B = Station} (λ (l : List Motor). record { motors = l }) (ap (λ (m : Motor). set (st .motors) i m) e ∙ set-getD (st .motors) i freeMotor)
 
 -- ---- the six calls
 
@@ -119,15 +119,6 @@ MovedStill st r = still (says (r .said) (r .frame) (r .result)) ≡ true → r .
 
 abbrev ToldStill : Station → Told → Type 0
 ToldStill st r = still (answered (r .said)) ≡ true → r .station ≡ st
-
-either : {A : Type 0} (P : A → Type 0) (b : Bool) (x y : A) → P x → P y → P (cond b x y)
-either P true x y p q = p
-either P false x y p q = q
-
-at-place : {A : Type 0} (P : A → Type 0) (st : Station) (id : ℕ) (found : ℕ → A) (none : A) → ((i : ℕ) → P (found i)) → P none → P (atPlace st id found none)
-unfolding atPlace
-at-place P st id found none p q =
-    either P (ltb (takenPlace (st .motors) id) 8) (found (takenPlace (st .motors) id)) none (p (takenPlace (st .motors) id)) q
 
 refused-still : (st : Station) (r : Refusal) → ToldStill st (told st (checked.Refused r))
 refused-still st r e = refl
@@ -151,14 +142,14 @@ start-still : (st : Station) (id : ℕ) (c : Command) (now : ℕ) → MovedStill
 unfolding startIn
 start-still st id c now =
     at-place (MovedStill st) st id (λ i. movedAt st i (startOf (motorAt st i) c now)) (unmoved st)
-    (λ i. moved-still st i (startOf (motorAt st i) c now) (start-kept (motorAt st i) c now))
+    (λ i p. moved-still st i (startOf (motorAt st i) c now) (start-kept (motorAt st i) c now))
     (λ e. refl)
 
 step-still : (st : Station) (id now : ℕ) → MovedStill st (stepIn st id now)
 unfolding stepIn
 step-still st id now =
     at-place (MovedStill st) st id (λ i. movedAt st i (stepOf (motorAt st i) now)) (unmoved st)
-    (λ i. moved-still st i (stepOf (motorAt st i) now) (step-kept (motorAt st i) now))
+    (λ i p. moved-still st i (stepOf (motorAt st i) now) (step-kept (motorAt st i) now))
     (λ e. refl)
 
 frame-still : (st : Station) (f : CanFrame) (now : ℕ) → ToldStill st (frameIn st f now)
@@ -167,7 +158,7 @@ frame-still st f now =
     let other = told st (checked.Refused refusal.FrameNotAccepted) in
     either (ToldStill st) (accepts (source f) f) (atPlace st (source f) (λ i. heardAt st i (heardOf (motorAt st i) f now)) other) other
     (at-place (ToldStill st) st (source f) (λ i. heardAt st i (heardOf (motorAt st i) f now)) other
-    (λ i. heard-still st i (heardOf (motorAt st i) f now) (heard-kept (motorAt st i) f now))
+    (λ i p. heard-still st i (heardOf (motorAt st i) f now) (heard-kept (motorAt st i) f now))
     (refused-still st refusal.FrameNotAccepted))
     (refused-still st refusal.FrameNotAccepted)
 
@@ -179,7 +170,7 @@ remove-still : (st : Station) (id now : ℕ) → ToldStill st (removeIn st id no
 unfolding removeIn
 remove-still st id now =
     at-place (ToldStill st) st id (λ i. removedAt (removalOf (motorAt st i) now) st i) (told st (checked.Refused refusal.IdNotRegistered))
-    (λ i. removed-still (removalOf (motorAt st i) now) st i)
+    (λ i p. removed-still (removalOf (motorAt st i) now) st i)
     (refused-still st refusal.IdNotRegistered)
 
 entered-still : (st : Station) (m : Motor) → ToldStill st (enteredIn st m)
@@ -193,7 +184,7 @@ admitted-still : (st : Station) (id host : ℕ) (model : Model) (wait time : ℕ
 unfolding admittedIn
 admitted-still st id host model wait time =
     at-place (ToldStill st) st id (λ i. told st (checked.Refused refusal.IdRegistered)) (enteredIn st (newMotor id host model wait time))
-    (λ i. refused-still st refusal.IdRegistered)
+    (λ i p. refused-still st refusal.IdRegistered)
     (entered-still st (newMotor id host model wait time))
 
 registered-still : (k : Admission) (st : Station) (id host wait time : ℕ) → ToldStill st (registerBy k st id host wait time)
@@ -204,31 +195,77 @@ register-still : (st : Station) (id host : ℕ) (model : ModelNamed) (wait time 
 unfolding registerIn
 register-still st id host model wait time = registered-still (registrationOf id host model wait time) st id host wait time
 
+given-still : (st : Station) (q : Request) → still (answerIn (given st q)) ≡ true → next st (given st q) ≡ st
+unfolding given answerIn next
+given-still st (registering κ m h n w t) = register-still st m h _ w t
+given-still st (starting m c t) = start-still st m c t
+given-still st (stepping m t) = step-still st m t
+given-still st (receiving f t) = frame-still st f t
+given-still st (looking m) = λ e. refl
+given-still st (removing m t) = remove-still st m t
+
 -- ---- by the contracts
 
+-- what is so of document 01's answer and next station is so of the code's
+by-contract : (st : Station) (s : List Place) → Shows st s → (q : Request) (o : Out) → Gives st q o → (P : Answer → List Place → Type 0)
+    → P ((stationCall s (callOf q)) .0) ((stationCall s (callOf q)) .1) → (t : List Place) × Shows (next st o) t × P (answerIn o) t
+by-contract st s x q o g P p =
+    let f = follows st s q o x g in
+    let t = (stationCall s (callOf q)) .1 in
+    (t, f .1, subst (λ (a : Answer). P a t) (sym (f .0)) p)
+
+-- Demand 1 of a good station, st, which holds s: the answers, and what a look shows after a call.
+pub record CodeKept (st : Station) (s : List Place) : Type 0 where
+  pub others : (q : Request) (o : Out) → Gives st q o → (m : ℕ) → mine m (callOf q) ≡ false → seen (next st o) m ≡ seen st m
+  pub freed : (m now : ℕ) (o : Out) → Gives st (removing m now) o → answerIn o ≡ ok → seen (next st o) m ≡ no refusal.IdNotRegistered
+  pub counted : (f : CanFrame) (now : ℕ) (o : Out) (h : Lone) → Gives st (receiving f now) o → held s (source f) ≡ some h
+      → among (number (answerIn o)) (14 ∷ 15 ∷ []) ≡ true → seen (next st o) (source f) ≡ shows (loneLook (raised h now))
+  pub ended : (m now : ℕ) (o : Out) (h : Lone) → Gives st (stepping m now) o → held s m ≡ some h
+      → among (number (answerIn o)) (16 ∷ 17 ∷ 18 ∷ 20 ∷ []) ≡ true → seen (next st o) m ≡ shows (loneLook (failed h now))
+  pub numbers : (q : Request) (o : Out) → Gives st q o → among (number (answerIn o)) (numbersOf (callOf q)) ≡ true
+  pub start-numbers : (m : ℕ) (c : Command) (now : ℕ) (o : Out) → Gives st (starting m c now) o
+      → among (number (answerIn o)) (14 ∷ 15 ∷ 16 ∷ 17 ∷ 18 ∷ 20 ∷ 21 ∷ []) ≡ false
+  pub frame-numbers : (f : CanFrame) (now : ℕ) (o : Out) → Gives st (receiving f now) o
+      → among (number (answerIn o)) (16 ∷ 17 ∷ 18 ∷ 19 ∷ 20 ∷ 21 ∷ []) ≡ false
+
+module _ (st : Station) (s : List Place) (x : Shows st s) where
+  -- what is held after a call that is answered so, seen by a look
+  seen-after : (q : Request) (o : Out) → Gives st q o → (m : ℕ) (k : Option Lone) (C : Answer → Type 0)
+      → (C ((stationCall s (callOf q)) .0) → held ((stationCall s (callOf q)) .1) m ≡ k) → C (answerIn o) → seen (next st o) m ≡ shown k
+  seen-after q o g m k C h c =
+      let b = by-contract st s x q o g (λ a t. C a → held t m ≡ k) h in
+      seen-is (next st o) (b .0) m (b .1) ∙ ap shown (b .2 c)
+
+  code-kept : Distinct s → CodeKept st s
+  unfolding callOf shown
+  code-kept d =
+      record {
+        others = λ q o g m e. seen-after q o g m (held s m) (λ a. Unit {0}) (λ u. demand1 .others s m (callOf q) e) tt ∙ sym (seen-is st s m x);
+        freed = λ m now o g. seen-after (removing m now) o g m none (λ a. a ≡ ok) (demand1 .freed s m now d);
+        counted = λ f now o h g q.
+            seen-after (receiving f now) o g (source f) (some (raised h now)) (λ a. among (number a) (14 ∷ 15 ∷ []) ≡ true) (demand1 .counted s f now h d q);
+        ended = λ m now o h g q.
+            seen-after (stepping m now) o g m (some (failed h now)) (λ a. among (number a) (16 ∷ 17 ∷ 18 ∷ 20 ∷ []) ≡ true) (demand1 .ended s m now h d q);
+        numbers = λ q o g.
+            by-contract st s x q o g (λ a t. among (number a) (numbersOf (callOf q)) ≡ true) (demand1 .numbers s (callOf q)) .2;
+        start-numbers = λ m c now o g.
+            by-contract st s x (starting m c now) o g (λ a t. among (number a) (14 ∷ 15 ∷ 16 ∷ 17 ∷ 18 ∷ 20 ∷ 21 ∷ []) ≡ false)
+            (demand1 .start-numbers s m c now) .2;
+        frame-numbers = λ f now o g.
+            by-contract st s x (receiving f now) o g (λ a t. among (number a) (16 ∷ 17 ∷ 18 ∷ 19 ∷ 20 ∷ 21 ∷ []) ≡ false)
+            (demand1 .frame-numbers s f now) .2;
+      }
+
+-- On any station: refused by a number other than 14 to 18 and 20, st comes back; all places but the call's own hold the same values.
 pub record CodeDemand1 : Type 0 where
   pub refused : (st : Station) (q : Request) (o : Out) → Gives st q o → still (answerIn o) ≡ true → next st o ≡ st
-
-code-refused : (st : Station) (q : Request) (o : Out) → Gives st q o → still (answerIn o) ≡ true → next st o ≡ st
-unfolding answerIn next
-code-refused st (registering κ m h n w t) (moved r) g = absurd g
-code-refused st (registering κ m h n w t) (tells r) g = subst (ToldStill st) (sym (g .0)) (register-still st m h _ w t)
-code-refused st (registering κ m h n w t) (looked r) g = absurd g
-code-refused st (starting m c t) (moved r) g = subst (MovedStill st) (sym (g .0)) (start-still st m c t)
-code-refused st (starting m c t) (tells r) g = absurd g
-code-refused st (starting m c t) (looked r) g = absurd g
-code-refused st (stepping m t) (moved r) g = subst (MovedStill st) (sym (g .0)) (step-still st m t)
-code-refused st (stepping m t) (tells r) g = absurd g
-code-refused st (stepping m t) (looked r) g = absurd g
-code-refused st (receiving f t) (moved r) g = absurd g
-code-refused st (receiving f t) (tells r) g = subst (ToldStill st) (sym (g .0)) (frame-still st f t)
-code-refused st (receiving f t) (looked r) g = absurd g
-code-refused st (looking m) (moved r) g = absurd g
-code-refused st (looking m) (tells r) g = absurd g
-code-refused st (looking m) (looked r) g = λ e. refl
-code-refused st (removing m t) (moved r) g = absurd g
-code-refused st (removing m t) (tells r) g = subst (ToldStill st) (sym (g .0)) (remove-still st m t)
-code-refused st (removing m t) (looked r) g = absurd g
+  pub elsewhere : (st : Station) (q : Request) (o : Out) → Gives st q o → (i : ℕ) → (i ≡ placeFor st q → ⊥) → motorAt (next st o) i ≡ motorAt st i
+  pub good : (st : Station) (s : List Place) → Shows st s → Distinct s → CodeKept st s
 
 pub code-demand1 : CodeDemand1
-code-demand1 = record { refused = code-refused }
+code-demand1 =
+    record {
+      refused = λ st q o g. subst (λ (y : Out). still (answerIn y) ≡ true → next st y ≡ st) (gives-given st q o g) (given-still st q);
+      elsewhere = elsewhere;
+      good = code-kept;
+    }

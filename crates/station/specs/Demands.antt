@@ -5,16 +5,23 @@ use mathlib.Core.Bool.{Bool, true, false, not}
 use mathlib.Core.List.{List, [], _∷_}
 use mathlib.Core.Option.{none, some}
 use lib.ListN.{length, take}
+use Rattle.codec.specs.declared.bus.CanFrame.{CanFrame}
 use Rattle.codec.specs.declared.error.Checked.the-variants as checked
 use Rattle.codec.specs.declared.error.Refusal.{Refusal}
 use Rattle.codec.specs.declared.model.Model.{Model}
 use Rattle.codec.specs.declared.model.ModelNamed.the-variants as named
 use Rattle.codec.specs.Kinds.{among}
 use Rattle.codec.specs.Refusals.{numberOf}
+use Rattle.engine.specs.declared.command.Command.{Command}
 use Rattle.engine.specs.declared.command.Said.the-variants as said
+use Rattle.engine.specs.declared.operation.Effect.the-variants as effect
+use Rattle.engine.specs.Run.{idle}
+use Rattle.motor.specs.Calls.{noCommand, movedBy}
 use Rattle.motor.specs.Lone.{Lone, loneNew}
-use Rattle.station.specs.Calls.{Call, register, remove, Answer, ok, no, says, shows}
-use Rattle.station.specs.Station.{Place, empty, held, Distinct, admission, stationCall}
+use Rattle.motor.specs.Receive.{counted}
+use Rattle.station.specs.Calls.{Call, register, start, step, frame, look, remove}
+use Rattle.station.specs.Calls.{Answer, ok, no, says, shows}
+use Rattle.station.specs.Station.{Place, empty, held, Distinct, admission, source, stationCall}
 use Rattle.station.specs.History.{Told, mine, ofM, after, story, own, history, alone, holds}
 
 -- what a motor is registered with besides its id
@@ -84,9 +91,48 @@ still (says (said.FinishedWith r) f b) = false
 still (says (said.Refused r) f b) = stillBy r
 still (shows v) = false
 
+-- the number by which an answer refuses, 0 where it doesn't
+unfoldable pub number : Answer → ℕ
+number ok = 0
+number (no r) = numberOf r
+number (says (said.Sent due) f b) = 0
+number (says (said.Waiting due) f b) = 0
+number (says (said.Finished r) f b) = 0
+number (says (said.FinishedWith r) f b) = 0
+number (says (said.Refused r) f b) = numberOf r
+number (shows v) = 0
+
+-- the numbers that a call may get, 0 with them: those of its tests, in their order, and of a step those by which an operation fails
+unfoldable pub numbersOf : Call → List ℕ
+numbersOf (register m host model wait time) = 0 ∷ 1 ∷ 2 ∷ 3 ∷ 9 ∷ 7 ∷ 5 ∷ 4 ∷ []
+numbersOf (start m c now) = 0 ∷ 6 ∷ 7 ∷ 8 ∷ 9 ∷ 2 ∷ 19 ∷ 12 ∷ 10 ∷ 11 ∷ []
+numbersOf (step m now) = 0 ∷ 6 ∷ 7 ∷ 21 ∷ 16 ∷ 17 ∷ 18 ∷ 20 ∷ []
+numbersOf (frame f now) = 0 ∷ 13 ∷ 7 ∷ 14 ∷ 15 ∷ []
+numbersOf (look m) = 0 ∷ 6 ∷ []
+numbersOf (remove m now) = 0 ∷ 6 ∷ 7 ∷ 8 ∷ []
+
+-- a motor whose clock takes the call's time, and besides: its response count rises; its operation is over
+unfoldable pub raised : Lone → ℕ → Lone
+raised h now = record { state = counted (h .state) now; readings = h .readings }
+
+unfoldable pub failed : Lone → ℕ → Lone
+failed h now = record { state = movedBy (h .state) now noCommand idle effect.Nothing; readings = h .readings }
+
 -- A refused call changes nothing, 14 to 18 and 20 apart; no call changes what is held for a motor that it isn't for; a removed
--- motor's place is free.
+-- motor's place is free. 14 and 15 change of their motor the clock and the response count, nothing else; 16, 17, 18 and 20 the clock
+-- and the operation, nothing else. Each call gets its own numbers only: a look refuses only with 6.
 pub record Demand1 : Type 0 where
   pub refused : (s : List Place) (c : Call) → still ((stationCall s c) .0) ≡ true → (stationCall s c) .1 ≡ s
   pub others : (s : List Place) (m : ℕ) (c : Call) → mine m c ≡ false → held ((stationCall s c) .1) m ≡ held s m
   pub freed : (s : List Place) (m now : ℕ) → Distinct s → (stationCall s (remove m now)) .0 ≡ ok → held ((stationCall s (remove m now)) .1) m ≡ none
+  pub counted : (s : List Place) (f : CanFrame) (now : ℕ) (h : Lone) → Distinct s → held s (source f) ≡ some h
+      → among (number ((stationCall s (frame f now)) .0)) (14 ∷ 15 ∷ []) ≡ true
+      → held ((stationCall s (frame f now)) .1) (source f) ≡ some (raised h now)
+  pub ended : (s : List Place) (m now : ℕ) (h : Lone) → Distinct s → held s m ≡ some h
+      → among (number ((stationCall s (step m now)) .0)) (16 ∷ 17 ∷ 18 ∷ 20 ∷ []) ≡ true
+      → held ((stationCall s (step m now)) .1) m ≡ some (failed h now)
+  pub numbers : (s : List Place) (c : Call) → among (number ((stationCall s c) .0)) (numbersOf c) ≡ true
+  pub start-numbers : (s : List Place) (m : ℕ) (c : Command) (now : ℕ)
+      → among (number ((stationCall s (start m c now)) .0)) (14 ∷ 15 ∷ 16 ∷ 17 ∷ 18 ∷ 20 ∷ 21 ∷ []) ≡ false
+  pub frame-numbers : (s : List Place) (f : CanFrame) (now : ℕ)
+      → among (number ((stationCall s (frame f now)) .0)) (16 ∷ 17 ∷ 18 ∷ 19 ∷ 20 ∷ 21 ∷ []) ≡ false

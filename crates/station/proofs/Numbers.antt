@@ -1,0 +1,120 @@
+-- The numbers that each call may get: a start none of an operation's, a frame its own four, a look only 6. Assumes nothing.
+use Prim.Native.Nat.{ℕ}
+use mathlib.Core.Path.{_≡_, refl}
+use mathlib.Core.Bool.{Bool, true, false, cond, not}
+use mathlib.Core.List.{List, [], _∷_, _++_}
+use mathlib.Core.Option.{Option, none, some}
+use Rattle.codec.specs.declared.bus.CanFrame.{CanFrame}
+use Rattle.codec.specs.declared.error.Checked.{Checked}
+use Rattle.codec.specs.declared.error.Checked.the-variants as checked
+use Rattle.codec.specs.declared.error.Refusal.{Refusal}
+use Rattle.codec.specs.declared.error.Refusal.the-variants as refusal
+use Rattle.codec.specs.declared.model.ModelNamed.{ModelNamed}
+use Rattle.codec.specs.declared.model.ModelNamed.the-variants as named
+use Rattle.codec.specs.Kinds.{among}
+use Rattle.codec.specs.Refusals.{numberOf}
+use Rattle.engine.specs.declared.command.Command.{Command}
+use Rattle.engine.specs.declared.command.Said.{Said}
+use Rattle.engine.specs.declared.command.Said.the-variants as said
+use Rattle.engine.specs.declared.operation.Effect.{Effect}
+use Rattle.engine.specs.declared.operation.Operation.{Operation}
+use Rattle.engine.specs.declared.operation.Phase.{Phase}
+use Rattle.engine.specs.Run.{advance}
+use Rattle.motor.specs.Calls.{registerNumbers, isIdle, stepSaid, sightOf, wanted}
+use Rattle.motor.specs.Lone.{Lone, loneStep, loneStepBy, hears}
+use Rattle.motor.specs.Receive.{accepts, late, readId, frameNumbers, frameSaid}
+use Rattle.motor.specs.Readings.{lookup, room}
+use Rattle.motor.proofs.Ends.{Closed, advance-ends}
+use Rattle.motor.proofs.Stays.{running}
+use Rattle.station.specs.Calls.{Call, register, start, step, frame, look, remove}
+use Rattle.station.specs.Calls.{no, says, refuses}
+use Rattle.station.specs.Station.{Place, held, full, isSome, movesTo, hearsTo, lone, route, admission, enter as takesIn, admit, source, stationCall}
+use Rattle.station.specs.Demands.{number, numbersOf}
+use Rattle.station.proofs.NumberLists.{every, of-each, outside, checkedNumber, of-first, tested-number}
+use Rattle.station.proofs.Starts.{startNumbers, start-number}
+
+-- ---- a step: 7 and 21, then the numbers by which an operation fails
+
+abbrev stepNumbers : List ℕ
+stepNumbers = 0 ∷ 6 ∷ 7 ∷ 21 ∷ 16 ∷ 17 ∷ 18 ∷ 20 ∷ []
+
+closed-number : (w : Said) (op : Operation) (x : Effect) (f : CanFrame) (b : List ℕ) → Closed w op x → among (number (says w f b)) stepNumbers ≡ true
+unfolding number among
+closed-number (said.Sent due) op x f b h = refl
+closed-number (said.Waiting due) op x f b h = refl
+closed-number (said.Finished r) op x f b h = refl
+closed-number (said.FinishedWith r) op x f b h = refl
+closed-number (said.Refused r) op x f b h = of-each (λ n. among n stepNumbers) (numberOf r) (16 ∷ 17 ∷ 18 ∷ 20 ∷ []) refl (h .0)
+
+step-number : (h : Lone) (now : ℕ) → among (number ((movesTo (loneStep h now)) .0)) stepNumbers ≡ true
+unfolding movesTo number among
+step-number h now = go (stepSaid (h .state .clock) p now) refl (of-first (λ n. among n stepNumbers) tests refl)
+  where
+    p : Phase
+    p = h .state .operation .phase
+
+    tests : List (Bool × Refusal)
+    tests = (late (h .state .clock) now, refusal.TimeOutOfRange) ∷ (isIdle p, refusal.NothingRunning) ∷ []
+
+    go : (k : Checked) → stepSaid (h .state .clock) p now ≡ k → among (checkedNumber k) stepNumbers ≡ true
+        → among (number ((movesTo (loneStepBy k h now)) .0)) stepNumbers ≡ true
+    go checked.Passed q e =
+        let f = wanted p (λ id. lookup id (h .readings)) in
+        let v = advance (sightOf (h .state)) now (h .state .operation) f p in
+        closed-number (v .said) (v .operation) (v .effect) (v .frame) (v .result)
+        (advance-ends (sightOf (h .state)) now (h .state .operation) f p (running (late (h .state .clock) now) (isIdle p) q))
+    go (checked.Refused r) q e = e
+
+-- ---- the six calls
+
+route-number : (ns : List ℕ) (s : List Place) (m : ℕ) (o : Option Lone) (n : Refusal) (c : Call) → among (number (refuses c n)) ns ≡ true
+    → ((h : Lone) → among (number ((lone h c) .0)) ns ≡ true) → among (number ((route s m o n c) .0)) ns ≡ true
+unfolding route
+route-number ns s m none n c a b = a
+route-number ns s m (some h) n c a b = b h
+
+admit-number : (k : Checked) (s : List Place) (m host : ℕ) (model : ModelNamed) (wait time : ℕ) (ns : List ℕ)
+    → among 0 ns ≡ true → among 3 ns ≡ true → among (checkedNumber k) ns ≡ true → among (number ((admit k s m host model wait time) .0)) ns ≡ true
+unfolding admit takesIn number
+admit-number checked.Passed s m host (named.Known model) wait time ns a b e = a
+admit-number checked.Passed s m host named.Unknown wait time ns a b e = b
+admit-number (checked.Refused r) s m host model wait time ns a b e = e
+
+pub call-numbers : (s : List Place) (c : Call) → among (number ((stationCall s c) .0)) (numbersOf c) ≡ true
+unfolding stationCall numbersOf number refuses lone hearsTo hears frameSaid admission among
+call-numbers s (register m host model wait time) =
+    admit-number (admission s m host model wait time) s m host model wait time (numbersOf (register m host model wait time)) refl refl
+    (of-first (λ n. among n (numbersOf (register m host model wait time)))
+    (registerNumbers m host model wait time ++ ((isSome (held s m), refusal.IdRegistered) ∷ (full s, refusal.StationFull) ∷ [])) refl)
+call-numbers s (start m c now) = route-number startNumbers s m (held s m) refusal.IdNotRegistered (start m c now) refl (λ h. start-number h c now)
+call-numbers s (step m now) = route-number stepNumbers s m (held s m) refusal.IdNotRegistered (step m now) refl (λ h. step-number h now)
+call-numbers s (frame f now) = go (accepts (source f) f)
+  where
+    ns : List ℕ
+    ns = 0 ∷ 13 ∷ 7 ∷ 14 ∷ 15 ∷ []
+
+    go : (b : Bool)
+        → among (number ((cond b (route s (source f) (held s (source f)) refusal.FrameNotAccepted (frame f now)) (no refusal.FrameNotAccepted, s)) .0)) ns ≡ true
+    go true =
+        route-number ns s (source f) (held s (source f)) refusal.FrameNotAccepted (frame f now) refl
+        (λ h. tested-number ns (frameNumbers (h .state) f now (not (room (readId f) (h .readings)))) refl)
+    go false = refl
+call-numbers s (look m) = route-number (0 ∷ 6 ∷ []) s m (held s m) refusal.IdNotRegistered (look m) refl (λ h. refl)
+call-numbers s (remove m now) =
+    route-number (0 ∷ 6 ∷ 7 ∷ 8 ∷ []) s m (held s m) refusal.IdNotRegistered (remove m now) refl
+    (λ h. tested-number (0 ∷ 6 ∷ 7 ∷ 8 ∷ [])
+    ((late (h .state .clock) now, refusal.TimeOutOfRange) ∷ (not (isIdle (h .state .operation .phase)), refusal.OperationRunning) ∷ []) refl)
+
+-- and so none of other numbers
+none-of : (s : List Place) (c : Call) (ys : List ℕ) → every (λ k. not (among k ys)) (numbersOf c) ≡ true → among (number ((stationCall s c) .0)) ys ≡ false
+none-of s c ys h = outside (number ((stationCall s c) .0)) (numbersOf c) ys h (call-numbers s c)
+
+pub start-none : (s : List Place) (m : ℕ) (c : Command) (now : ℕ)
+    → among (number ((stationCall s (start m c now)) .0)) (14 ∷ 15 ∷ 16 ∷ 17 ∷ 18 ∷ 20 ∷ 21 ∷ []) ≡ false
+unfolding numbersOf among
+start-none s m c now = none-of s (start m c now) (14 ∷ 15 ∷ 16 ∷ 17 ∷ 18 ∷ 20 ∷ 21 ∷ []) refl
+
+pub frame-none : (s : List Place) (f : CanFrame) (now : ℕ)
+    → among (number ((stationCall s (frame f now)) .0)) (16 ∷ 17 ∷ 18 ∷ 19 ∷ 20 ∷ 21 ∷ []) ≡ false
+unfolding numbersOf among
+frame-none s f now = none-of s (frame f now) (16 ∷ 17 ∷ 18 ∷ 19 ∷ 20 ∷ 21 ∷ []) refl
