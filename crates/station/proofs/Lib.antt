@@ -17,3 +17,7 @@ pub mod Refused
 pub mod Unchanged
 pub mod ChangedPlaces
 pub mod Kept
+pub mod Definitions
+pub mod EchoAtStation
+pub mod HeldReadings
+pub mod Demand2

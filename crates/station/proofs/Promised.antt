@@ -114,7 +114,7 @@ at-is st s [] (o ∷ os) x g (suc k) = absurd g
 at-is st s (q ∷ qs) [] x g (suc k) = absurd g
 at-is st s (q ∷ qs) (o ∷ os) x g (suc k) = at-is (next st o) ((stationCall s (callOf q)) .1) qs os (follows st s q o x (g .0) .1) (g .1) k
 
-end-is : (st : Station) (s : List Place) (qs : List Request) (os : List Out) → Shows st s → Ran st qs os
+pub end-is : (st : Station) (s : List Place) (qs : List Request) (os : List Out) → Shows st s → Ran st qs os
     → Shows (ending st os) (after s (map callOf qs))
 unfolding after ending
 end-is st s [] [] x g = x

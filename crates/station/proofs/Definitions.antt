@@ -1,0 +1,86 @@
+-- The functions' own contracts promise document 01's definitions: a contract that is weakened or dropped breaks this file. Assumes nothing.
+use Rattle.station.specs.Definitions.{Ids, Parameters, MotionValues, StatusValues, ReadingRules, ReceiveRules, Operations}
+
+pub ids : Ids
+ids = record { build = λ k x r p. p; parts = λ k x r p. p }
+
+pub parameters : Parameters
+parameters =
+    record {
+      parameter = λ k x r p. p;
+      encode-read = λ k x r p. p;
+      encode-write = λ k x r p. p;
+      encode-value = λ k x r p. p;
+      decode-value = λ k x r p. p;
+      mode-from = λ k x r p. p;
+      mode-to = λ k x r p. p;
+      byte = λ k x r p. p;
+      signed = λ k x r p. p;
+    }
+
+pub motion-values : MotionValues
+motion-values =
+    record {
+      named = λ k x r p. p;
+      limits-named = λ k x r p. p;
+      limits = λ k x r p. p;
+      motion = λ k x r p. p;
+      gain = λ k x r p. p;
+      command = λ k x r p. p;
+      float = λ k x r p. p;
+      word = λ k x r p. p;
+    }
+
+pub status-values : StatusValues
+status-values =
+    record {
+      value = λ k x r p. p;
+      degrees = λ k x r p. p;
+      status = λ k x r p. p;
+      fault = λ k x r p. p;
+      ping = λ k x r p. p;
+      is-version = λ k x r p. p;
+      version = λ k x r p. p;
+      ask-version = λ k x r p. p;
+    }
+
+reading-rules : ReadingRules
+reading-rules =
+    record {
+      none = λ k x r p. p .0;
+      none-held = λ k x r p. p .1;
+      find = λ k x r p. p .0;
+      find-held = λ k x r p. p .1;
+      put = λ k x r p. p .0;
+      put-held = λ k x r p. p .1;
+      drop = λ k x r p. p .0;
+      drop-held = λ k x r p. p .1;
+      listed = λ k x r p. p .0;
+      listed-held = λ k x r p. p .1;
+    }
+
+pub receive-rules : ReceiveRules
+receive-rules = record { readings = reading-rules; accepted = λ k x r p. p; heard = λ k x r p. p .0; as-lone = λ k x r p. p .1 }
+
+pub operations : Operations
+operations =
+    record {
+      numbers = λ k x r p. p;
+      candidates = λ k x r p. p;
+      no-frame = λ k x r p. p;
+      no-operation = λ k x r p. p;
+      protocol = λ k x r p. p;
+      set-protocol = λ k x r p. p;
+      begins = λ k x r p. p;
+      advances = λ k x r p. p;
+      admission = λ k x r p. p;
+      new = λ k x r p. p .0;
+      new-as-lone = λ k x r p. p .1;
+      start = λ k x r p. p .0;
+      start-as-lone = λ k x r p. p .1;
+      step = λ k x r p. p .0;
+      step-as-lone = λ k x r p. p .1;
+      look = λ k x r p. p .0;
+      look-as-lone = λ k x r p. p .1;
+      removal = λ k x r p. p;
+    }

@@ -1,0 +1,114 @@
+-- Demand 2: the functions' own contracts promise document 01's definitions; a value accepted for writing and echoed is held; what is held
+-- came in a reply, has the table's kind, and writes out the bytes that its kind uses. `Carries`, `WrittenOut` and `heldKind` are the
+-- motor's. Definitions only.
+use Prim.Native.Nat.{ℕ, _<_}
+use mathlib.Core.Path.{_≡_}
+use mathlib.Core.Bool.{Bool, true, false}
+use mathlib.Core.List.{List, [], _∷_}
+use mathlib.Core.Logic.{_⊎_}
+use mathlib.Core.Option.{Option, none, some}
+use lib.ListN.{getD}
+use Rattle.codec.specs.declared.bus.CanFrame.{CanFrame}
+use Rattle.codec.specs.declared.protocol.ParameterValue.{ParameterValue}
+use Rattle.codec.specs.declared.registers.ParameterDataType.{ParameterDataType}
+use Rattle.codec.specs.declared.registers.ParameterInfo.the-variants as info
+use Rattle.codec.specs.Kinds.{infoOf}
+use Rattle.codec.specs.Values.{kindIn}
+use Rattle.codec.proofs.RoundTrips.{InRange}
+use Rattle.engine.specs.declared.command.Command.the-variants as command
+use Rattle.engine.specs.declared.command.Said.the-variants as said
+use Rattle.engine.specs.declared.reading.Found.{Found}
+use Rattle.engine.specs.declared.reading.Found.the-variants as found
+use Rattle.engine.specs.Requests.{noFrame}
+use Rattle.motor.specs.declared.readings.Entry.{Entry}
+use Rattle.motor.specs.Lone.{Lone}
+use Rattle.motor.specs.Readings.{entry, lookup}
+use Rattle.motor.specs.Receive.{accepts, isRead, readStatus, readId, readStored}
+use Rattle.motor.proofs.Echo.{Carries, WrittenOut}
+use Rattle.motor.proofs.ReceivingTheorems.{heldKind}
+use Rattle.station.specs.Calls.{Call, start, frame}
+use Rattle.station.specs.Calls.{Answer, ok, no, says, shows}
+use Rattle.station.specs.Station.{Place, empty, held, source, stationCall}
+use Rattle.station.specs.History.{Told, after}
+use Rattle.station.specs.Definitions.{Ids, Parameters, MotionValues, StatusValues, ReceiveRules, Operations}
+
+-- ---- echo
+
+-- an answer that isn't a refusal, and the frame that comes with it
+unfoldable pub unrefused : Answer → Bool
+unrefused ok = true
+unrefused (no r) = false
+unrefused (says (said.Sent due) f b) = true
+unrefused (says (said.Waiting due) f b) = true
+unrefused (says (said.Finished r) f b) = true
+unrefused (says (said.FinishedWith r) f b) = true
+unrefused (says (said.Refused r) f b) = false
+unrefused (shows v) = true
+
+unfoldable pub sentIn : Answer → CanFrame
+sentIn ok = noFrame
+sentIn (no r) = noFrame
+sentIn (says w f b) = f
+sentIn (shows v) = noFrame
+
+-- the reading of a parameter that is held for a motor
+unfoldable pub reading : ℕ → Option Lone → Found
+reading id none = found.Nothing
+reading id (some h) = lookup id (h .readings)
+
+-- A write that isn't refused, of a value that its case can hold, and any frame, to any station, that is a read reply, carries the id and
+-- the four bytes as the write frame did, and isn't refused (so its status is zero, not 14): the value is held with its kind and bits.
+abbrev pub Echo : Type 0
+Echo =
+    (s : List Place) (m id : ℕ) (v : ParameterValue) (time : ℕ) → InRange v
+    → let a = (stationCall s (start m (command.WriteParameter id v) time)) .0 in
+    unrefused a ≡ true
+    → (t : List Place) (f : CanFrame) (later : ℕ) → isRead f ≡ true → Carries (f .data) (sentIn a .data)
+    → (stationCall t (frame f later)) .0 ≡ ok
+    → reading id (held ((stationCall t (frame f later)) .1) (source f)) ≡ found.Held (record { value = v })
+
+-- ---- what is held
+
+abbrev pub In : {A : Type 0} → A → List A → Type 0
+In x [] = ⊥
+In x (y ∷ ys) = (x ≡ y) ⊎ In x ys
+
+-- calls from the station s on, each with its answer
+unfoldable pub telling : List Place → List Call → List Told
+telling s [] = []
+telling s (c ∷ cs) = (c, (stationCall s c) .0) ∷ telling ((stationCall s c) .1) cs
+
+-- a reading of m came in a frame of these calls: a read reply that m accepts, with status zero, and not refused
+pub record Came (m : ℕ) (told : List Told) (e : Entry) : Type 0 where
+  pub reply : CanFrame
+  pub time : ℕ
+  pub handed-in : In (frame reply time, ok) told
+  pub accepted : accepts m reply ≡ true
+  pub read : isRead reply ≡ true
+  pub zero-status : readStatus reply ≡ 0
+  pub same : entry (readId reply) (readStored reply) ≡ e
+
+-- its kind is the table's (UInt32 for an unlisted id); of a listed parameter it is encoded, and its write carries the first bytes of the
+-- payload it came from, as many as its kind uses, then zeros
+pub record HeldReading (m : ℕ) (told : List Told) (e : Entry) : Type 0 where
+  pub came : Came m told e
+  pub kind : kindIn (e .held .value) ≡ heldKind (e .id)
+  pub written-out : (k : ParameterDataType) → infoOf (e .id) ≡ info.Listed k → ((i : ℕ) → getD (came .reply .data) i 0 < 256)
+      → WrittenOut (e .id) (e .held .value) k (came .reply .data)
+
+-- after any list of calls from a fresh station, for any motor, every reading
+abbrev pub Readings : Type 0
+Readings =
+    (cs : List Call) (m : ℕ) (h : Lone) → held (after empty cs) m ≡ some h → (e : Entry) → In e (h .readings) → HeldReading m (telling empty cs) e
+
+-- ---- demand 2
+
+pub record Demand2 : Type 0 where
+  pub ids : Ids
+  pub parameters : Parameters
+  pub motion-values : MotionValues
+  pub status-values : StatusValues
+  pub receive-rules : ReceiveRules
+  pub operations : Operations
+  pub echo : Echo
+  pub readings : Readings
