@@ -13,6 +13,7 @@ use ops::session::{Detail, Session};
 
 const PLAIN: Detail = Detail {
     polls: false,
+    frames: false,
     looks: false,
 };
 
@@ -64,6 +65,7 @@ fn text_of_a_session() {
 fn polls_as_steps() {
     let every = Detail {
         polls: true,
+        frames: false,
         looks: false,
     };
     let exchanges = session(asked(0, Command::Enable), every).exchanges;
@@ -186,6 +188,7 @@ fn due_times_of_ensure_control_mode() {
 fn looks_and_refused_frames() {
     let looks = Detail {
         polls: false,
+        frames: false,
         looks: true,
     };
     let schedule = Schedule::new(1, 0xFD, "rs-00", 0, 100)
