@@ -1,0 +1,13 @@
+//! The differential runner: random schedules, run on the unchanged Rust in virtual time (crate ops),
+//! and the same sessions through the real replay program; every byte that it answers is compared.
+#![cfg(rust_found)]
+
+pub mod class;
+pub mod compare;
+pub mod count;
+pub mod make;
+pub mod replay;
+pub mod rules;
+pub mod run;
+pub mod shrink;
+pub mod waits;

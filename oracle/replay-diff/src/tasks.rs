@@ -1,0 +1,60 @@
+//! Does what the options ask for, and says how it went.
+use crate::options::{Options, Task};
+use replay_diff::replay::{self, Replay};
+use replay_diff::run::{self, Plan};
+use std::process::ExitCode;
+use std::time::Instant;
+
+pub fn run(options: &Options) -> ExitCode {
+    let done = match &options.task {
+        Task::Compare => with_program(|replay| compare(&options.plan, replay)),
+        Task::Only(index) => with_program(|replay| only(options.plan.seed, *index, replay)),
+        Task::Mutants => Err("not yet".to_string()),
+        Task::Sample(_) => Err("not yet".to_string()),
+        Task::CheckSample(_) => Err("not yet".to_string()),
+    };
+    match done {
+        Ok(last) => {
+            say(&last);
+            ExitCode::SUCCESS
+        }
+        Err(last) => {
+            say(&last);
+            ExitCode::FAILURE
+        }
+    }
+}
+
+fn say(text: &str) {
+    println!("replay-diff: {text}");
+}
+
+fn with_program(task: impl FnOnce(Replay) -> Result<String, String>) -> Result<String, String> {
+    let program = replay::program()?;
+    task(&|input| replay::answer(&program, input))
+}
+
+fn compare(plan: &Plan, replay: Replay) -> Result<String, String> {
+    say(&format!("seed {}", plan.seed));
+    let began = Instant::now();
+    let outcome = run::run(plan, replay);
+    let seconds = began.elapsed().as_secs_f64();
+    outcome
+        .said(plan.seed, replay)
+        .iter()
+        .for_each(|line| say(line));
+    let rate = outcome.count.all() as f64 / seconds;
+    say(&format!("{seconds:.1} s, {rate:.0} schedules a second"));
+    match outcome.is_good() {
+        true => Ok(outcome.last()),
+        false => Err(outcome.last()),
+    }
+}
+
+fn only(seed: u64, index: u64, replay: Replay) -> Result<String, String> {
+    let shown = run::show(seed, index, replay);
+    match shown.contains("is the same by itself") {
+        true => Ok(shown.trim_end().to_string()),
+        false => Err(shown.trim_end().to_string()),
+    }
+}
