@@ -139,6 +139,7 @@ fn registered(random: &mut Random) -> u64 {
 #[cfg(test)]
 mod tests {
     use super::*;
+    use crate::text;
 
     const MANY: u64 = 600;
 
@@ -178,18 +179,6 @@ mod tests {
         }
     }
 
-    /// The time of a frame's event.
-    fn heard_at(words: &[&str]) -> Option<u64> {
-        match words[0].strip_prefix('(') {
-            Some(stamp) => {
-                let (seconds, micros) = stamp.strip_suffix(')')?.split_once('.')?;
-                let (seconds, micros): (u64, u64) = (seconds.parse().ok()?, micros.parse().ok()?);
-                Some(seconds * 1000 + micros / 1000)
-            }
-            None => words[1].parse().ok(),
-        }
-    }
-
     /// On the grid each step is at the time of the frame before it or at the due time.
     #[test]
     fn steps_on_the_grid() {
@@ -197,20 +186,19 @@ mod tests {
         for (_, expected) in cases(4).filter(|(case, _)| grid(case)) {
             let (mut due, mut heard) = (None, None);
             for exchange in &expected.session.exchanges {
-                let words: Vec<&str> = exchange.event.split(' ').collect();
+                let time = text::time(&exchange.event);
                 let said = exchange.answers.last().map_or("", String::as_str);
                 let next = said
                     .rsplit_once("due ")
                     .and_then(|(_, time)| time.parse().ok());
-                match words[0] {
-                    "step" => {
-                        let time = words[2].parse().ok();
+                match exchange.event.split(' ').next() {
+                    Some("step") => {
                         assert!(time == due || time == heard, "{exchange:?}");
                         due = next;
                     }
-                    "start" => due = next,
-                    "look" | "register" => (),
-                    _ => heard = heard_at(&words),
+                    Some("start") => due = next,
+                    Some("look" | "register") => (),
+                    _ => heard = time,
                 }
             }
         }

@@ -1,7 +1,9 @@
 //! Does what the options ask for, and says how it went.
 use crate::options::{Options, Task};
+use replay_diff::mutants;
 use replay_diff::replay::{self, Replay};
 use replay_diff::run::{self, Plan};
+use replay_diff::sample;
 use std::process::ExitCode;
 use std::time::Instant;
 
@@ -9,9 +11,9 @@ pub fn run(options: &Options) -> ExitCode {
     let done = match &options.task {
         Task::Compare => with_program(|replay| compare(&options.plan, replay)),
         Task::Only(index) => with_program(|replay| only(options.plan.seed, *index, replay)),
-        Task::Mutants => Err("not yet".to_string()),
-        Task::Sample(_) => Err("not yet".to_string()),
-        Task::CheckSample(_) => Err("not yet".to_string()),
+        Task::Mutants => with_program(|replay| mutants(options.plan.seed, replay)),
+        Task::Sample(folder) => sample::write(folder),
+        Task::CheckSample(folder) => sample::check(folder),
     };
     match done {
         Ok(last) => {
@@ -56,5 +58,17 @@ fn only(seed: u64, index: u64, replay: Replay) -> Result<String, String> {
     match shown.contains("is the same by itself") {
         true => Ok(shown.trim_end().to_string()),
         false => Err(shown.trim_end().to_string()),
+    }
+}
+
+fn mutants(seed: u64, replay: Replay) -> Result<String, String> {
+    say(&format!("seed {seed}"));
+    let tried = mutants::try_all(seed, replay)?;
+    tried.iter().for_each(|tried| say(&tried.text()));
+    let caught = tried.iter().filter(|tried| tried.is_caught()).count();
+    let last = format!("{} mutants, {caught} caught", tried.len());
+    match caught == tried.len() {
+        true => Ok(last),
+        false => Err(last),
     }
 }

@@ -12,6 +12,9 @@ use ops::schedule::Schedule;
 /// The distance of the domain.
 const APART: u64 = 20;
 
+/// The type of the frame that disables.
+const DISABLE: u32 = 4;
+
 /// The longest polled window that is left without an answer as often as others.
 const LONG: u64 = 1000;
 
@@ -81,7 +84,7 @@ impl Maker {
 /// Times that keep the distances.
 impl Maker {
     /// Answers in their times after a frame that is sent now.
-    fn kept(&mut self, now: u64, wait: &Wait) -> Vec<(u64, Frame)> {
+    fn kept(&mut self, now: u64, wait: &Wait, sent: &Frame) -> Vec<(u64, Frame)> {
         let mut frames = Vec::new();
         while self.chance(20) {
             let Some(frame) = self.aside(wait) else { break };
@@ -90,7 +93,7 @@ impl Maker {
         if self.random.below(100) < self.answered(wait) {
             let frame = self.answer(wait.what);
             if self.place(now, wait, frame, &mut frames) && wait.ends_by(&frame, self.voice.motor) {
-                self.in_pause(now, &mut frames);
+                self.in_pause(now, sent, &mut frames);
             }
         }
         frames
@@ -115,9 +118,9 @@ impl Maker {
     }
 
     /// Now and then a frame in the pause that follows the disabling in ensure_control_mode.
-    fn in_pause(&mut self, now: u64, to: &mut Vec<(u64, Frame)>) {
-        let pausing = matches!(self.command, Some(Command::EnsureControlMode(..)));
-        if pausing && self.chance(30) {
+    fn in_pause(&mut self, now: u64, sent: &Frame, to: &mut Vec<(u64, Frame)>) {
+        let ensuring = matches!(self.command, Some(Command::EnsureControlMode(..)));
+        if ensuring && waits::kind_of(sent.id) == DISABLE && self.chance(30) {
             let after = self.last + 24 + self.below(12) - now;
             self.last = now + after;
             to.push((after, self.noise()));
@@ -194,7 +197,7 @@ impl Director for Maker {
             return Vec::new();
         };
         match waits::after(command, self.write_wait, frame) {
-            Some(wait) if self.class.is_strict() => self.kept(now, &wait),
+            Some(wait) if self.class.is_strict() => self.kept(now, &wait, frame),
             Some(wait) => self.free(&wait),
             None if self.class == Class::Beyond && self.chance(10) => {
                 vec![(self.below(300), self.noise())]

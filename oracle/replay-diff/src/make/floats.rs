@@ -1,6 +1,6 @@
 //! Words of floats, by the place in which they stand.
 use common::random::Random;
-use common::words::{SIGN, SPECIAL, VALUES};
+use common::words::{INFINITY, SIGN, SPECIAL, VALUES};
 
 /// Limits of the models, and what lies about them: positions, velocities, torques.
 const LIMITS: [f32; 8] = [12.566371, 33.0, 44.0, 20.0, 15.0, 50.0, 14.0, 120.0];
@@ -10,8 +10,14 @@ const GAINS: [f32; 12] = [
     0.0, 0.09, 0.1, 0.11, 0.5, 2.0, 5.0, 9.99, 10.0, 100.0, 500.0, 5000.0,
 ];
 
+/// A word at which a float's form changes, or a NaN that signals or doesn't.
 fn special(random: &mut Random) -> u32 {
-    random.one_of(&SPECIAL) | random.one_of(&[0, SIGN])
+    let nan = INFINITY | random.word() >> 9 | 1;
+    let word = match random.below(4) {
+        0 => nan,
+        _ => random.one_of(&SPECIAL),
+    };
+    word | random.one_of(&[0, SIGN])
 }
 
 /// A position, velocity or torque.
@@ -19,7 +25,7 @@ pub fn motion(random: &mut Random) -> u32 {
     match random.below(8) {
         0 => special(random),
         1 => random.one_of(&LIMITS).to_bits() | random.one_of(&[0, SIGN]),
-        2 => 0,
+        2 => random.one_of(&[0, SIGN]),
         3 => random.word(),
         4 => random.within(200.0).to_bits(),
         _ => random.within(12.0).to_bits(),
@@ -28,7 +34,7 @@ pub fn motion(random: &mut Random) -> u32 {
 
 pub fn gain(random: &mut Random) -> u32 {
     match random.below(8) {
-        0 => special(random),
+        0 | 7 => special(random),
         1 | 2 => neighbour(random),
         3 => random.word(),
         4 => random.within(6000.0).to_bits(),

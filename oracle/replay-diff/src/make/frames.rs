@@ -125,6 +125,7 @@ fn value(random: &mut Random, id: u16, command: Option<&Command>) -> u32 {
     }
     match (command, random.below(8)) {
         (Some(Command::EnsureControlMode(mode, _)), 0..=2) => *mode as u32,
+        (Some(Command::GetParameterI8(..) | Command::GetParameter(..)), 0..=3) => random.word(),
         (_, 6) => random.one_of(&[3, 4, 6, 7, 0x7F, 0x80, 0xFF, 0x102]),
         _ => random.one_of(&[0, 1, 2, 5]),
     }
