@@ -140,6 +140,7 @@ fn registered(random: &mut Random) -> u64 {
 mod tests {
     use super::*;
     use crate::text;
+    use ops::session::Exchange;
 
     const MANY: u64 = 600;
 
@@ -157,24 +158,35 @@ mod tests {
         assert_ne!(sessions(1), sessions(2));
     }
 
-    /// The 20 ms between frames, and from starts, by another reading of the log than rules.rs has.
+    /// The distances once more, read off the sessions and not off the log: frames from each other, from
+    /// calls, from the due time in force and from the last one that came.
     #[test]
     fn frames_keep_away() {
-        use ops::log::What;
-        for (case, expected) in cases(3).filter(|(case, _)| case.class.is_strict()) {
-            let times = |wanted: fn(&What) -> bool| -> Vec<u64> {
-                let entries = expected.log.entries.iter();
-                let found = entries.filter(|entry| wanted(&entry.what));
-                found.map(|entry| entry.time).collect()
-            };
-            let heard = times(|what| matches!(what, What::Heard(..)));
-            let started = times(|what| matches!(what, What::Started(_) | What::Registered(_)));
-            assert!(heard.windows(2).all(|pair| pair[1] - pair[0] >= 20));
-            for time in &heard {
-                assert!(
-                    started.iter().all(|start| start.abs_diff(*time) >= 20),
-                    "{case:?}"
-                );
+        for (_, expected) in cases(3).filter(|(case, _)| case.class.is_strict()) {
+            let (mut last, mut due): (Option<u64>, Option<u64>) = (None, None);
+            let mut looked_at = None;
+            for Exchange { event, answers } in &expected.session.exchanges {
+                let Some(time) = text::time(event) else {
+                    continue;
+                };
+                let near = |other: &u64| other.abs_diff(time) < 20;
+                let said = answers.last().map_or("", String::as_str);
+                if text::heard(event).is_some() {
+                    assert!(!last.iter().chain(&due).any(near), "{event}");
+                    (last, looked_at) = (Some(time), Some(time));
+                    continue;
+                }
+                if event.starts_with("step") {
+                    let late = due.is_some_and(|due| due <= time);
+                    last = if late { due.max(looked_at) } else { last };
+                } else {
+                    assert!(!looked_at.iter().any(near), "{event}");
+                    last = Some(time);
+                }
+                due = said
+                    .rsplit_once("due ")
+                    .and_then(|(_, due)| due.parse().ok());
+                due = due.filter(|due| *due > time);
             }
         }
     }

@@ -166,3 +166,86 @@ impl Walk {
         Ok(())
     }
 }
+
+#[cfg(test)]
+mod tests {
+    use super::*;
+    use ops::command::Command;
+    use ops::frame::Frame;
+    use ops::run::run;
+    use ops::schedule::Schedule;
+
+    const FAR: Result<(), &str> = Ok(());
+    const FRAMES: Result<(), &str> = Err("two frames less than 20 ms apart");
+    const CALL: Result<(), &str> = Err("a frame less than 20 ms from a call or a due time");
+    const GRID: Result<(), &str> = Err("a step off the poll grid");
+
+    /// Motor 1 enabled at 100, with a status at each of the times.
+    fn enabled(times: &[u64]) -> Schedule {
+        let schedule = Schedule::new(1, 0xFD, "rs-00", 120, 0).command(100, Command::Enable);
+        let status = Frame::heard(0x0280_01FD, [0; 8]);
+        let hear = |schedule: Schedule, time: &u64| schedule.frame(*time, status);
+        times.iter().fold(schedule, hear)
+    }
+
+    fn checked(schedule: &Schedule, class: Class) -> Result<(), String> {
+        check(&run(schedule).expect("a good schedule"), class)
+    }
+
+    fn assert_rule(schedule: Schedule, class: Class, rule: Result<(), &str>) {
+        let found = checked(&schedule, class);
+        assert_eq!(found, rule.map_err(String::from), "{schedule:?}");
+    }
+
+    #[test]
+    fn distances() {
+        for (times, rule) in [
+            (&[120][..], FAR),
+            (&[119], CALL),
+            (&[80], FAR),
+            (&[81], CALL),
+            (&[19], CALL),
+            (&[120, 140], FAR),
+            (&[120, 139], FRAMES),
+            (&[320], FAR),
+            (&[321], CALL),
+            (&[359], CALL),
+            (&[360], FAR),
+            (&[560], FAR),
+            (&[561], CALL),
+        ] {
+            assert_rule(enabled(times), Class::Domain, rule);
+            assert_eq!(checked(&enabled(times), Class::Beyond), Ok(()));
+        }
+    }
+
+    /// After 140 the due time 340 is given up; a second frame may come near it.
+    #[test]
+    fn a_due_time_given_up() {
+        assert_rule(enabled(&[140, 345]), Class::Domain, FAR);
+    }
+
+    /// The look at the frame of 121 is at 124 and makes due times from there: they don't count for that
+    /// frame, but for the next.
+    #[test]
+    fn made_by_the_look() {
+        let command = Command::SendCmdPosVelCsp(0, 0);
+        let status = Frame::heard(0x0280_01FD, [0; 8]);
+        let schedule = |second| {
+            let schedule = Schedule::new(1, 0xFD, "rs-00", 0, 0).command(100, command);
+            schedule.frame(121, status).frame(second, status)
+        };
+        assert_rule(schedule(144), Class::Domain, FAR);
+        assert_rule(schedule(143), Class::Domain, CALL);
+        assert_rule(schedule(144), Class::Grid, GRID);
+    }
+
+    #[test]
+    fn on_the_grid() {
+        assert_rule(enabled(&[120]), Class::Grid, FAR);
+        assert_rule(enabled(&[122]), Class::Grid, GRID);
+        assert_rule(enabled(&[]), Class::Grid, FAR);
+        let ping = Schedule::new(1, 0xFD, "rs-00", 0, 0).command(100, Command::Ping(121));
+        assert_rule(ping, Class::Grid, GRID);
+    }
+}

@@ -145,7 +145,9 @@ impl Outcome {
             lines.push(format!("all that differ: {:?}", self.differ));
         }
         if self.stopped {
-            lines.push(format!("stopped: {ENOUGH} or more differ"));
+            lines.push(format!(
+                "stopped: {ENOUGH} or more differ, and not all others were compared"
+            ));
         }
         lines.extend(self.count.said());
         let missing = self.count.missing().join(", ");

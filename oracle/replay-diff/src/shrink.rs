@@ -120,7 +120,8 @@ fn sooner(schedule: &mut Schedule, by: u64) {
     schedule.frames.iter_mut().for_each(|frame| frame.0 -= by);
 }
 
-/// Each command and what follows it brought nearer to what comes before, each frame's data zero.
+/// Each command and what follows it brought nearer to what comes before, each frame brought nearer to
+/// a command, each frame's data zero.
 fn earlier(case: &Case, all: &mut Vec<Case>) {
     let schedule = &case.schedule;
     let mut before = schedule.registered;
@@ -133,6 +134,12 @@ fn earlier(case: &Case, all: &mut Vec<Case>) {
             }
         }
         before = *time;
+    }
+    for (i, frame) in schedule.frames.iter().enumerate() {
+        let starts = schedule.commands.iter().map(|(time, _)| time + 20);
+        for time in starts.filter(|time| *time < frame.0) {
+            all.push(with(case, |schedule| schedule.frames[i].0 = time));
+        }
     }
     for i in 0..schedule.frames.len() {
         if schedule.frames[i].1.data != [0; 8] {
