@@ -159,42 +159,26 @@ fn close_up(schedule: &mut Schedule, time: u64, by: u64) {
 
 /// The command with simpler arguments, if they aren't simple.
 fn simpler(command: &Command) -> Vec<Command> {
-    let all = match *command {
-        Command::Ping(t) => shorter(t).map(Command::Ping).collect(),
-        Command::EnsureControlMode(mode, t) => shorter(t)
-            .map(|t| Command::EnsureControlMode(mode, t))
-            .collect(),
-        Command::GetControlMode(t) => shorter(t).map(Command::GetControlMode).collect(),
-        Command::ControlledStop(t) => shorter(t).map(Command::ControlledStop).collect(),
-        Command::GetProtocolFlag(t) => shorter(t).map(Command::GetProtocolFlag).collect(),
-        Command::GetParameter(id, t) => shorter(t).map(|t| Command::GetParameter(id, t)).collect(),
-        Command::GetParameterF32(id, t) => shorter(t)
-            .map(|t| Command::GetParameterF32(id, t))
-            .collect(),
-        Command::GetParameterI8(id, t) => {
-            shorter(t).map(|t| Command::GetParameterI8(id, t)).collect()
+    let timeouts = command.timeout().into_iter().flat_map(shorter);
+    let mut all: Vec<Command> = timeouts.map(|t| command.with_timeout(t)).collect();
+    match *command {
+        Command::SendCmdMit(words) => all.extend(zeroed(words).map(Command::SendCmdMit)),
+        Command::SetVelocityTarget(word) => {
+            all.extend(zeroed([word]).map(|[a]| Command::SetVelocityTarget(a)));
         }
-        Command::SendCmdMit(words) => zeroed(words).map(Command::SendCmdMit).collect(),
-        Command::SetVelocityTarget(word) => zeroed([word])
-            .map(|[a]| Command::SetVelocityTarget(a))
-            .collect(),
         Command::SendCmdPosVelCsp(a, b) => {
-            let simple = zeroed([a, b]);
-            simple
-                .map(|[a, b]| Command::SendCmdPosVelCsp(a, b))
-                .collect()
+            all.extend(zeroed([a, b]).map(|[a, b]| Command::SendCmdPosVelCsp(a, b)));
         }
         Command::SendCmdPosVelPp(a, b, c) => {
             let simple = zeroed([a, b, c]);
-            simple
-                .map(|[a, b, c]| Command::SendCmdPosVelPp(a, b, c))
-                .collect()
+            all.extend(simple.map(|[a, b, c]| Command::SendCmdPosVelPp(a, b, c)));
         }
-        Command::WriteParameter(id, Value { kind, bits }) => zeroed([bits])
-            .map(|[bits]| Command::WriteParameter(id, Value { kind, bits }))
-            .collect(),
-        _ => Vec::new(),
-    };
+        Command::WriteParameter(id, Value { kind, bits }) => {
+            let simple = zeroed([bits]).map(|[bits]| Value { kind, bits });
+            all.extend(simple.map(|value| Command::WriteParameter(id, value)));
+        }
+        _ => (),
+    }
     all
 }
 

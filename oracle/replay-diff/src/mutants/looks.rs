@@ -150,7 +150,7 @@ pub const ALL: &[Mutant] = &[
     answer(
         "kept by a request",
         "keeps a reading when it is requested again",
-        |memory, event, said| kept(memory, event, said),
+        kept,
     ),
     answer("register's wait", "shows no write wait", |_, _, said| {
         lines_of(said, "motor", |words| number_at(words, 4, |_| 0))
