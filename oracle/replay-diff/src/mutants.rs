@@ -5,6 +5,7 @@ mod answers;
 mod events;
 mod lines;
 mod looks;
+mod runs;
 
 use crate::compare::{self, Text};
 use crate::make::make;
@@ -49,7 +50,7 @@ struct Memory {
 }
 
 fn all() -> impl Iterator<Item = &'static Mutant> {
-    let tables = [events::ALL, answers::ALL, looks::ALL];
+    let tables = [events::ALL, answers::ALL, looks::ALL, runs::ALL];
     tables.into_iter().flatten()
 }
 

@@ -92,7 +92,8 @@ fn device(random: &mut Random) -> u8 {
     random.one_of(&[0, 1, 2, 7, 127, 255])
 }
 
-pub fn command(random: &mut Random, class: Class) -> Command {
+/// A command to a motor with these largest gains.
+pub fn command(random: &mut Random, class: Class, largest: [f32; 2]) -> Command {
     let wait = timeout(random, class);
     let id = parameter(random);
     let mode = random.one_of(&MODES);
@@ -110,7 +111,7 @@ pub fn command(random: &mut Random, class: Class) -> Command {
         10 => Command::Disable,
         11 => Command::ClearError,
         12 => Command::SetActiveReport(random.below(2) == 0),
-        13 => mit(random),
+        13 => mit(random, largest),
         14 => Command::SetVelocityTarget(floats::motion(random)),
         15 => Command::GetControlMode(wait),
         16 | 17 => Command::ControlledStop(wait),
@@ -128,8 +129,8 @@ pub fn command(random: &mut Random, class: Class) -> Command {
     }
 }
 
-fn mit(random: &mut Random) -> Command {
+fn mit(random: &mut Random, largest: [f32; 2]) -> Command {
     let (position, velocity) = (floats::motion(random), floats::motion(random));
-    let (kp, kd) = (floats::gain(random), floats::gain(random));
+    let [kp, kd] = largest.map(|largest| floats::gain(random, largest));
     Command::SendCmdMit([position, velocity, kp, kd, floats::motion(random)])
 }

@@ -1,5 +1,6 @@
 //! Makes a schedule while it runs: mostly plausible answers to what is sent, at times of the class.
 use super::commands;
+use super::floats::largest_gains;
 use super::frames::Voice;
 use crate::class::Class;
 use crate::waits::{self, For, Wait};
@@ -18,6 +19,9 @@ const DISABLE: u32 = 4;
 /// The longest polled window that is left without an answer as often as others.
 const LONG: u64 = 1000;
 
+/// The most readings heard before the first command; all in all no more than 96 may be held.
+const MANY: u64 = 80;
+
 /// The longest time after which a frame may answer.
 const LATEST: u64 = 60_000;
 
@@ -25,6 +29,7 @@ pub struct Maker {
     random: Random,
     class: Class,
     voice: Voice,
+    largest: [f32; 2],
     write_wait: u64,
     left: usize,
     command: Option<Command>,
@@ -39,6 +44,7 @@ impl Maker {
             random: Random::new(random.word64(), "director"),
             class,
             voice: Voice { motor, host },
+            largest: largest_gains(&schedule.model),
             write_wait: schedule.write_wait,
             left: 1 + random.below(5),
             command: None,
@@ -128,8 +134,8 @@ impl Maker {
     }
 
     fn next_kept(&mut self, now: u64) -> Next {
+        let mut frames = self.flood(now, APART);
         let mut time = self.last.max(now);
-        let mut frames = Vec::new();
         while self.chance(30) {
             time += APART + self.below(100);
             frames.push((time, self.noise()));
@@ -142,9 +148,26 @@ impl Maker {
 
     fn next_command(&mut self, time: u64) -> Option<(u64, Command)> {
         self.left = self.left.checked_sub(1)?;
-        let command = commands::command(&mut self.random, self.class);
+        let mitted = matches!(self.command, Some(Command::SendCmdMit(_)));
+        let command = match mitted && self.chance(40) {
+            true => Command::ControlledStop(160),
+            false => commands::command(&mut self.random, self.class, self.largest),
+        };
         self.command = Some(command);
         Some((time, command))
+    }
+
+    /// Now and then many readings before the first command.
+    fn flood(&mut self, now: u64, apart: u64) -> Vec<(u64, Frame)> {
+        let first = self.command.is_none() && self.left > 0;
+        if !first || self.random.below(60) > 0 {
+            return Vec::new();
+        }
+        let most = 1 + self.below(MANY);
+        let frame = |i| (now + (i + 1) * apart, self.voice.reading(&mut self.random));
+        let frames: Vec<(u64, Frame)> = (0..most).map(frame).collect();
+        self.last = now + most * apart;
+        frames
     }
 }
 
@@ -173,7 +196,7 @@ impl Maker {
     }
 
     fn next_free(&mut self, now: u64) -> Next {
-        let mut frames = Vec::new();
+        let mut frames = self.flood(now, 1);
         while self.chance(30) {
             frames.push((now + self.below(600), self.noise()));
         }

@@ -59,6 +59,14 @@ impl Voice {
         }
     }
 
+    /// A read reply for any parameter, listed or not.
+    pub fn reading(self, random: &mut Random) -> Frame {
+        let any = random.below(256) as u16;
+        let id = random.one_of(&[any, 0x2000 + any % 40, 0x7000 + any % 50]);
+        let bits = floats::bits(random);
+        self.reply(random, id, bits)
+    }
+
     /// A frame of a type, as a motor may send it.
     fn frame(self, random: &mut Random, kind: u32) -> Frame {
         if kind == 17 {
@@ -126,6 +134,7 @@ fn value(random: &mut Random, id: u16, command: Option<&Command>) -> u32 {
     match (command, random.below(8)) {
         (Some(Command::EnsureControlMode(mode, _)), 0..=2) => *mode as u32,
         (Some(Command::GetParameterI8(..) | Command::GetParameter(..)), 0..=3) => random.word(),
+        (Some(Command::ControlledStop(_)), 0..=2) => 0,
         (_, 6) => random.one_of(&[3, 4, 6, 7, 0x7F, 0x80, 0xFF, 0x102]),
         _ => random.one_of(&[0, 1, 2, 5]),
     }
