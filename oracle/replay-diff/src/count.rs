@@ -51,6 +51,7 @@ pub struct Count {
     commands: Tally,
     ends: Tally,
     models: Tally,
+    stations: Tally,
 }
 
 impl Count {
@@ -64,12 +65,19 @@ impl Count {
         }
     }
 
+    /// A station with so many motors.
+    pub fn station(&mut self, motors: usize) {
+        self.events += 1;
+        self.lines += 1;
+        add(&mut self.stations, &motors.to_string(), 1);
+    }
+
     fn good(&mut self, case: &Case, expected: &Expected) {
         self.schedules[case.class as usize] += 1;
         add(&mut self.models, &case.schedule.model, 1);
         let exchanges = &expected.session.exchanges;
-        self.events += 1 + exchanges.len() as u64;
-        self.lines += 1 + exchanges
+        self.events += exchanges.len() as u64;
+        self.lines += exchanges
             .iter()
             .map(|e| e.answers.len() as u64)
             .sum::<u64>();
@@ -103,6 +111,7 @@ impl Count {
             (&mut self.commands, &other.commands),
             (&mut self.ends, &other.ends),
             (&mut self.models, &other.models),
+            (&mut self.stations, &other.stations),
         ];
         for (to, from) in pairs {
             from.iter().for_each(|(name, n)| add(to, name, *n));
@@ -131,6 +140,7 @@ impl Count {
             format!("commands: {}", list(&self.commands)),
             format!("ends: {}", list(&self.ends)),
             format!("models: {}", list(&self.models)),
+            format!("stations by number of motors: {}", list(&self.stations)),
             format!("{thrown} schedules thrown away: {reasons}"),
         ]
     }

@@ -3,7 +3,9 @@ use common::random::SEED;
 use replay_diff::class::Class;
 use replay_diff::run::Plan;
 
-pub const USAGE: &str = "usage: replay-diff [--schedules N] [--seed S] [--class domain|grid|beyond|all] [--threads T] [--only INDEX]
+pub const USAGE: &str =
+    "usage: replay-diff [--schedules N] [--seed S] [--class domain|grid|beyond|all] [--threads T]
+       replay-diff --only INDEX[,INDEX..] [--seed S]
        replay-diff --mutants [--seed S]
        replay-diff --sample DIR | --check-sample DIR";
 
@@ -12,7 +14,8 @@ const SCHEDULES: u64 = 20_000;
 
 pub enum Task {
     Compare,
-    Only(u64),
+    /// Schedules by their numbers, on one station.
+    Only(Vec<u64>),
     Mutants,
     Sample(String),
     CheckSample(String),
@@ -54,7 +57,10 @@ fn one(options: &mut Options, name: &str, value: String) -> Option<()> {
         "--threads" => plan.threads = value.parse().ok().filter(|threads| *threads > 0)?,
         "--class" if value == "all" => plan.class = None,
         "--class" => plan.class = Some(Class::named(&value)?),
-        "--only" => options.task = Task::Only(value.parse().ok()?),
+        "--only" => {
+            let numbers = value.split(',').map(str::parse);
+            options.task = Task::Only(numbers.collect::<Result<_, _>>().ok()?);
+        }
         "--sample" => options.task = Task::Sample(value),
         "--check-sample" => options.task = Task::CheckSample(value),
         _ => return None,

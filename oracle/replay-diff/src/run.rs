@@ -2,9 +2,11 @@
 use crate::class::Class;
 use crate::compare::{self, Text};
 use crate::count::Count;
-use crate::make::{make, Case, Expected};
+use crate::make::{make, Case};
 use crate::replay::Replay;
-use crate::shrink::shrink;
+use crate::shrink::shrink_all;
+use crate::station::{stations, together, Member, Station};
+use ops::session::Session;
 use std::sync::atomic::{AtomicU64, Ordering};
 use std::sync::{Mutex, PoisonError};
 use std::thread;
@@ -32,8 +34,8 @@ pub struct Plan {
 #[derive(Default)]
 pub struct Outcome {
     pub count: Count,
-    /// The numbers of the schedules that differ, in order.
-    pub differ: Vec<u64>,
+    /// The stations that differ, in order, each by the numbers of its schedules.
+    pub differ: Vec<Vec<u64>>,
     /// Whether there were too many to go on.
     pub stopped: bool,
 }
@@ -74,19 +76,24 @@ fn number(plan: &Plan, n: u64) -> u64 {
 
 fn chunk(plan: &Plan, from: u64, to: u64, replay: Replay) -> Outcome {
     let mut outcome = Outcome::default();
-    let (mut numbers, mut texts) = (Vec::new(), Vec::new());
+    let mut members = Vec::new();
     for n in from..to {
-        let made = make(plan.seed, number(plan, n));
+        let index = number(plan, n);
+        let made = make(plan.seed, index);
         outcome.count.made(&made);
-        if let Some((_, expected)) = &made.good {
-            numbers.push(number(plan, n));
-            texts.push(Text::of(&expected.session));
-        }
+        members.extend(made.good.map(|(case, expected)| Member {
+            index,
+            case,
+            expected,
+        }));
     }
-    outcome.differ = wrong(&texts, replay)
-        .into_iter()
-        .map(|i| numbers[i])
-        .collect();
+    let stations = stations(plan.seed, members);
+    let texts: Vec<Text> = stations.iter().map(Station::text).collect();
+    stations
+        .iter()
+        .for_each(|station| outcome.count.station(station.members.len()));
+    let wrong = wrong(&texts, replay).into_iter();
+    outcome.differ = wrong.map(|i| stations[i].numbers()).collect();
     outcome
 }
 
@@ -104,43 +111,42 @@ pub fn wrong(texts: &[Text], replay: Replay) -> Vec<usize> {
     all
 }
 
-/// Shrinks and shows a schedule that differs.
-pub fn show(seed: u64, index: u64, replay: Replay) -> String {
-    let Some((case, expected)) = make(seed, index).good else {
-        return format!("schedule {index} of seed {seed} was thrown away\n");
-    };
-    let events = expected.session.exchanges.len();
-    let name = case.class.name();
-    let fails = |case: &Case| case.expected().is_ok_and(|e| differs(&e, replay).is_some());
-    if !fails(&case) {
-        return format!(
-            "schedule {index} of seed {seed} ({name}) is the same by itself, {events} events\n"
-        );
+/// Compares schedules on one station; an error is the smallest that differs, as text.
+pub fn only(seed: u64, numbers: &[u64], replay: Replay) -> Result<String, String> {
+    let list: Vec<String> = numbers.iter().map(u64::to_string).collect();
+    let name = format!("{} of seed {seed}", list.join(","));
+    let good = numbers.iter().map(|index| make(seed, *index).good);
+    let cases: Option<Vec<Case>> = good.map(|good| Some(good?.0)).collect();
+    let cases = cases.ok_or(format!("schedule {name} was thrown away"))?;
+    let session = together(&cases).map_err(|said| format!("schedule {name}: {said}"))?;
+    let events = session.exchanges.len();
+    let classes: Vec<&str> = cases.iter().map(|case| case.class.name()).collect();
+    let name = format!("schedule {name} ({})", classes.join(", "));
+    let fails =
+        |cases: &[Case]| together(cases).is_ok_and(|session| differs(&session, replay).is_some());
+    if !fails(&cases) {
+        return Ok(format!("{name}: {events} events, the same"));
     }
-    let small = shrink(case, &expected.log, fails);
-    let mut text = format!(
-        "schedule {index} of seed {seed} ({name}) differs; alone: --seed {seed} --only {index}\n"
-    );
-    if let Ok(expected) = small.expected() {
-        let left = expected.session.exchanges.len();
-        text += &format!("shrunk from {events} events to {left}:\n");
-        if let Some(difference) = differs(&expected, replay) {
-            text += &compare::print(&expected.session, &difference);
-        }
-    }
-    text
+    let small = together(&shrink_all(cases, fails))?;
+    let shown = differs(&small, replay).map_or(String::new(), |d| compare::print(&small, &d));
+    let left = small.exchanges.len();
+    let list = list.join(",");
+    Err(format!(
+        "{name} differs; alone: --seed {seed} --only {list}\nshrunk from {events} events to {left}:\n{shown}"
+    ))
 }
 
-fn differs(expected: &Expected, replay: Replay) -> Option<compare::Difference> {
-    let text = Text::of(&expected.session);
-    compare::difference(&expected.session, &replay(&text.input))
+fn differs(session: &Session, replay: Replay) -> Option<compare::Difference> {
+    let text = Text::of(session);
+    compare::difference(session, &replay(&text.input))
 }
 
 impl Outcome {
     /// All lines to print but the last.
     pub fn said(&self, seed: u64, replay: Replay) -> Vec<String> {
         let shown = self.differ.iter().take(SHOWN);
-        let mut lines: Vec<String> = shown.map(|index| show(seed, *index, replay)).collect();
+        let show = |numbers: &Vec<u64>| only(seed, numbers, replay).unwrap_or_else(|shown| shown);
+        let mut lines: Vec<String> = shown.map(show).collect();
         if self.differ.len() > SHOWN {
             lines.push(format!("all that differ: {:?}", self.differ));
         }
@@ -189,9 +195,20 @@ mod tests {
 
     /// A replay that knows the answers to the plan's schedules, by session.
     fn knowing() -> HashMap<String, String> {
-        let good = (0..PLAN.schedules).filter_map(|index| make(PLAN.seed, index).good);
-        let texts = good.map(|(_, expected)| Text::of(&expected.session));
-        texts.map(|text| (text.input, text.output)).collect()
+        let mut known = HashMap::new();
+        for from in (0..PLAN.schedules).step_by(CHUNK as usize) {
+            let to = PLAN.schedules.min(from + CHUNK);
+            let good = (from..to).filter_map(|index| Some((index, make(PLAN.seed, index).good?)));
+            let member = |(index, (case, expected))| Member {
+                index,
+                case,
+                expected,
+            };
+            let texts = stations(PLAN.seed, good.map(member).collect());
+            let texts = texts.iter().map(Station::text);
+            known.extend(texts.map(|text| (text.input, text.output)));
+        }
+        known
     }
 
     fn answer(known: &HashMap<String, String>, input: &str) -> Vec<u8> {
@@ -226,12 +243,22 @@ mod tests {
         let all: Vec<u64> = all.collect();
         let outcome = run(&PLAN, &wrong);
         assert!(!all.is_empty() && !outcome.is_good());
-        assert_eq!(outcome.differ, all);
+        let holds = |index: &u64| {
+            outcome
+                .differ
+                .iter()
+                .filter(|found| found.contains(index))
+                .count()
+        };
+        assert!(all.iter().all(|index| holds(index) == 1));
+        let right = |found: &Vec<u64>| !found.iter().any(|index| all.contains(index));
+        assert!(!outcome.differ.iter().any(right));
     }
 
     #[test]
     fn a_wrong_one_is_shown() {
-        let shown = show(PLAN.seed, 5, &|_| b"ok\nno\n".to_vec());
+        let shown = only(PLAN.seed, &[5], &|_| b"ok\nno\n".to_vec());
+        let shown = shown.expect_err("it differs");
         assert!(shown.contains("--seed 12 --only 5") && shown.contains("    actual    no\n"));
         assert!(shown.starts_with("schedule 5 of seed 12 (beyond) differs"));
     }

@@ -2,7 +2,6 @@
 //! Rust's log, part 2 has them by hand from document 01. Replay has no part in it.
 mod by_hand;
 mod incident;
-mod merge;
 mod operations;
 
 use ops::session::Session;

@@ -5,12 +5,36 @@ use ops::command::Command;
 use ops::log::{Log, What};
 use ops::schedule::Schedule;
 
-/// The smallest case found that still fails. `log` is that of the case.
-pub fn shrink(case: Case, log: &Log, fails: impl Fn(&Case) -> bool) -> Case {
+/// The smallest station found that still fails: fewer cases, and each as small as can be.
+pub fn shrink_all(cases: Vec<Case>, fails: impl Fn(&[Case]) -> bool) -> Vec<Case> {
+    let mut cases = cases;
+    for i in (0..cases.len()).rev() {
+        let mut fewer = cases.clone();
+        fewer.remove(i);
+        if !fewer.is_empty() && fails(&fewer) {
+            cases = fewer;
+        }
+    }
+    for i in 0..cases.len() {
+        let changed = |case: &Case| {
+            let mut changed = cases.clone();
+            changed[i] = case.clone();
+            changed
+        };
+        let small = shrink(cases[i].clone(), |case| fails(&changed(case)));
+        cases[i] = small;
+    }
+    cases
+}
+
+/// The smallest case found that still fails.
+fn shrink(case: Case, fails: impl Fn(&Case) -> bool) -> Case {
     let mut case = case;
-    let plain = with(&case, |schedule| by_time(schedule, log));
-    if fails(&plain) {
-        case = plain;
+    if let Ok(expected) = case.expected() {
+        let plain = with(&case, |schedule| by_time(schedule, &expected.log));
+        if fails(&plain) {
+            case = plain;
+        }
     }
     loop {
         let smaller = candidates(&case).into_iter().find(|smaller| fails(smaller));
@@ -213,14 +237,14 @@ mod tests {
         };
         let mut found = 0;
         for index in 0..120 {
-            let Some((case, expected)) = make(9, index).good else {
+            let Some((case, _)) = make(9, index).good else {
                 continue;
             };
             if !fails(&case) {
                 continue;
             }
             found += 1;
-            let small = shrink(case, &expected.log, fails);
+            let small = shrink(case, fails);
             let Schedule {
                 commands,
                 frames,
@@ -244,13 +268,31 @@ mod tests {
             expected.session.output().contains("refused 14")
         };
         for index in 0..120 {
-            let Some((case, expected)) = make(10, index).good else {
+            let Some((case, _)) = make(10, index).good else {
                 continue;
             };
             if fails(&case) {
-                let small = shrink(case, &expected.log, fails).schedule;
+                let small = shrink(case, fails).schedule;
                 assert_eq!((small.commands.len(), small.frames.len()), (0, 1));
             }
         }
+    }
+
+    /// Of several motors those are left that it takes.
+    #[test]
+    fn two_motors_are_left() {
+        let good = (0..60).filter_map(|index| make(11, index).good);
+        let all: Vec<Case> = good.map(|(case, _)| case).collect();
+        let has = |cases: &[Case], name: &str| {
+            let sessions = cases.iter().filter_map(|case| case.expected().ok());
+            sessions
+                .map(|e| e.session.input())
+                .any(|input| input.contains(name))
+        };
+        let fails = |cases: &[Case]| has(cases, " enable") && has(cases, " save_parameters");
+        assert!(fails(&all));
+        let small = shrink_all(all, fails);
+        let commands: usize = small.iter().map(|case| case.schedule.commands.len()).sum();
+        assert!(small.len() <= 2 && commands == 2);
     }
 }

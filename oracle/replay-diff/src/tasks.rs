@@ -10,7 +10,7 @@ use std::time::Instant;
 pub fn run(options: &Options) -> ExitCode {
     let done = match &options.task {
         Task::Compare => with_program(|replay| compare(&options.plan, replay)),
-        Task::Only(index) => with_program(|replay| only(options.plan.seed, *index, replay)),
+        Task::Only(numbers) => with_program(|replay| run::only(options.plan.seed, numbers, replay)),
         Task::Mutants => with_program(|replay| mutants(options.plan.seed, replay)),
         Task::Sample(folder) => sample::write(folder),
         Task::CheckSample(folder) => sample::check(folder),
@@ -50,14 +50,6 @@ fn compare(plan: &Plan, replay: Replay) -> Result<String, String> {
     match outcome.is_good() {
         true => Ok(outcome.last()),
         false => Err(outcome.last()),
-    }
-}
-
-fn only(seed: u64, index: u64, replay: Replay) -> Result<String, String> {
-    let shown = run::show(seed, index, replay);
-    match shown.contains("is the same by itself") {
-        true => Ok(shown.trim_end().to_string()),
-        false => Err(shown.trim_end().to_string()),
     }
 }
 

@@ -22,6 +22,12 @@ pub fn kind_of(id: u32) -> u32 {
     id >> 24 & 0x1F
 }
 
+/// The motor that a frame is of, where its form and type are accepted.
+pub fn source(frame: &Frame) -> Option<u16> {
+    let accepted = frame.extended && [0, 2, 17, 21, 24, 25].contains(&kind_of(frame.id));
+    accepted.then_some((frame.id >> 8 & 0xFF) as u16)
+}
+
 /// The wait after a frame of a command; None where nothing waits.
 pub fn after(command: &Command, write_wait: u64, frame: &Frame) -> Option<Wait> {
     let timeout = command.timeout().unwrap_or(0);
@@ -70,8 +76,6 @@ impl Wait {
     /// Whether a frame of the motor's ends the wait.
     pub fn ends_by(&self, frame: &Frame, motor: u16) -> bool {
         let kind = kind_of(frame.id);
-        let accepted = frame.extended && [0, 2, 17, 21, 24, 25].contains(&kind);
-        let ours = frame.id >> 8 & 0xFF == u32::from(motor);
         let id = u16::from_le_bytes([frame.data[0], frame.data[1]]);
         let status = frame.id >> 16 & 0xFF;
         let ends = match self.what {
@@ -80,6 +84,6 @@ impl Wait {
             For::Value(wanted) => kind == 17 && status == 0 && id == wanted,
             For::Ping => kind == 0,
         };
-        accepted && ours && ends
+        source(frame) == Some(motor) && ends
     }
 }

@@ -1,8 +1,8 @@
 //! The incident: motors 2 and 6 on one station, both asked for 7019, with replies interleaved both
 //! ways; each must be held at its own angle. The Rust runs one motor at a time, so each motor's answers
 //! come from a run of its own, and the two sessions are merged by time.
-use super::merge::merge;
 use super::Titled;
+use crate::merge::merge;
 use ops::command::Command;
 use ops::frame::Frame;
 use ops::run::run;
@@ -61,7 +61,7 @@ pub fn sessions() -> Vec<Titled> {
 fn both(asked: Asked, after: [u64; 2]) -> Session {
     let two = one(2, 1000, asked, after[0], ANGLES[0]);
     let six = one(6, 1005, asked, after[1], ANGLES[1]);
-    merge(&two, &six)
+    merge([&two, &six])
 }
 
 fn one(motor: u16, time: u64, asked: Asked, after: u64, angle: u32) -> Session {

@@ -1,11 +1,11 @@
-//! Two sessions as one, by time.
+//! Several sessions as one, by time.
 use crate::text::time;
 use ops::session::{Exchange, Session};
 
-/// The exchanges of both by their times, a's first where they are equal. What has no time, a look,
-/// stays with what stands before it.
-pub fn merge(a: &Session, b: &Session) -> Session {
-    let mut all: Vec<(u64, &Exchange)> = timed(a).chain(timed(b)).collect();
+/// The exchanges of all by their times; where they are equal, those of the first session first. What
+/// has no time, a look, stays with what stands before it.
+pub fn merge<'a>(sessions: impl IntoIterator<Item = &'a Session>) -> Session {
+    let mut all: Vec<(u64, &Exchange)> = sessions.into_iter().flat_map(timed).collect();
     all.sort_by_key(|(time, _)| *time);
     let exchanges = all.into_iter().map(|(_, exchange)| exchange.clone());
     Session {
@@ -49,6 +49,6 @@ mod tests {
             "step 2 30",
             "look 2",
         ];
-        assert_eq!(merge(&a, &b), session(&both));
+        assert_eq!(merge([&a, &b]), session(&both));
     }
 }
