@@ -10,6 +10,9 @@ mod runs;
 use crate::compare::{self, Text};
 use crate::make::make;
 use crate::replay::Replay;
+use crate::station::{stations, Member, Station};
+use crate::text::heard;
+use crate::waits::source;
 use lines::answered;
 use ops::session::{Exchange, Session};
 use std::collections::BTreeMap;
@@ -30,6 +33,8 @@ pub struct Mutant {
 enum Change {
     /// What the program takes an event for.
     Event(fn(&str) -> Taken),
+    /// The same, by what it heard on the station before.
+    EventAfter(fn(&mut Lines, &str) -> Taken),
     /// What it says in place of its answers.
     Answer(fn(&mut Memory, &str, &mut Vec<String>)),
 }
@@ -43,10 +48,13 @@ enum Taken {
     Not(&'static str),
 }
 
-/// What a wrong program remembers of a session.
+type Lines = BTreeMap<String, String>;
+
+/// What a wrong program remembers: of the motor that it answers for, and of the whole station.
 #[derive(Default)]
 struct Memory {
-    lines: BTreeMap<String, String>,
+    lines: Lines,
+    station: Lines,
 }
 
 fn all() -> impl Iterator<Item = &'static Mutant> {
@@ -54,11 +62,11 @@ fn all() -> impl Iterator<Item = &'static Mutant> {
     tables.into_iter().flatten()
 }
 
-/// A mutant tried: the number of the first schedule that caught it.
+/// A mutant tried: the numbers of the first schedules, on one station, that caught it.
 pub struct Tried {
     mutant: &'static Mutant,
     changed: bool,
-    caught: Option<u64>,
+    caught: Option<Vec<u64>>,
 }
 
 impl Tried {
@@ -69,9 +77,9 @@ impl Tried {
 
     pub fn text(&self) -> String {
         let Mutant { name, program, .. } = self.mutant;
-        match self.caught {
-            Some(index) if self.changed => {
-                format!("caught by schedule {index}: {name}: {program}")
+        match &self.caught {
+            Some(numbers) if self.changed => {
+                format!("caught by schedule {numbers:?}: {name}: {program}")
             }
             _ if self.changed => format!("NOT CAUGHT: {name}: {program}"),
             _ => format!("NOT CAUGHT, it changed nothing: {name}: {program}"),
@@ -85,33 +93,30 @@ pub fn try_all(seed: u64, replay: Replay) -> Result<Vec<Tried>, String> {
     for chunk in subjects.chunks(CHUNK) {
         let actual = replay(&compare::input(chunk.iter().map(|subject| &subject.text)));
         if let Some(i) = compare::first_wrong(&texts(chunk), &actual) {
-            let index = chunk[i].index;
-            return Err(format!("schedule {index} differs without any mutant"));
+            let numbers = &chunk[i].numbers;
+            return Err(format!("schedule {numbers:?} differs without any mutant"));
         }
     }
     let tried = all().map(|mutant| attempt(mutant, &subjects, replay));
     Ok(tried.collect())
 }
 
-/// A schedule to try on. Its expected answers are those of replay, as was seen before.
+/// A station to try on. Its expected answers are those of replay, as was seen before.
 struct Subject {
-    index: u64,
+    numbers: Vec<u64>,
     session: Session,
     text: Text,
 }
 
 fn subjects(seed: u64) -> Vec<Subject> {
-    let made = (0..SCHEDULES).map(|index| (index, make(seed, index).good));
-    let good = made.filter_map(|(index, good)| Some((index, good?.1.session)));
-    let subject = |(index, session)| {
-        let text = Text::of(&session);
-        Subject {
-            index,
-            session,
-            text,
-        }
+    let members = (0..SCHEDULES).filter_map(|index| Member::of(index, make(seed, index)));
+    let stations = stations(seed, members.collect());
+    let subject = |station: &Station| Subject {
+        numbers: station.numbers(),
+        session: station.session(),
+        text: station.text(),
     };
-    good.map(subject).collect()
+    stations.iter().map(subject).collect()
 }
 
 fn texts(subjects: &[Subject]) -> Vec<Text> {
@@ -129,11 +134,14 @@ fn attempt(mutant: &'static Mutant, subjects: &[Subject], replay: Replay) -> Tri
     };
     for chunk in subjects.chunks(CHUNK) {
         let actual = match mutant.change {
-            Change::Event(take) => reads_wrongly(take, chunk, replay, &mut tried.changed),
+            Change::Event(take) => {
+                reads_wrongly(|_, event| take(event), chunk, replay, &mut tried.changed)
+            }
+            Change::EventAfter(take) => reads_wrongly(take, chunk, replay, &mut tried.changed),
             Change::Answer(say) => answers_wrongly(say, chunk, &mut tried.changed),
         };
         if let Some(i) = compare::first_wrong(&texts(chunk), actual.as_bytes()) {
-            tried.caught = Some(chunk[i].index);
+            tried.caught = Some(chunk[i].numbers.clone());
             break;
         }
     }
@@ -142,13 +150,17 @@ fn attempt(mutant: &'static Mutant, subjects: &[Subject], replay: Replay) -> Tri
 
 /// The answers of replay to the events as the program takes them.
 fn reads_wrongly(
-    take: fn(&str) -> Taken,
+    take: impl Fn(&mut Lines, &str) -> Taken,
     chunk: &[Subject],
     replay: Replay,
     changed: &mut bool,
 ) -> String {
-    let events = chunk.iter().flat_map(|subject| subject.text.input.lines());
-    let taken: Vec<(&str, Taken)> = events.map(|event| (event, take(event))).collect();
+    let mut taken: Vec<(&str, Taken)> = Vec::new();
+    for subject in chunk {
+        let mut before = Lines::new();
+        let events = subject.text.input.lines();
+        taken.extend(events.map(|event| (event, take(&mut before, event))));
+    }
     let mut input = String::new();
     for (event, taken) in &taken {
         match taken {
@@ -195,16 +207,31 @@ fn answers_wrongly(
 ) -> String {
     let mut all = String::new();
     for subject in chunk {
-        let mut memory = Memory::default();
+        let mut motors: BTreeMap<u16, Memory> = BTreeMap::new();
+        let mut station = Lines::new();
         all += "ok\n";
         for Exchange { event, answers } in &subject.session.exchanges {
             let mut said = answers.clone();
-            say(&mut memory, event, &mut said);
+            let memory = motors.entry(motor_of(event)).or_default();
+            std::mem::swap(&mut memory.station, &mut station);
+            say(memory, event, &mut said);
+            std::mem::swap(&mut memory.station, &mut station);
             *changed |= said != *answers;
             said.iter().for_each(|line| all += &format!("{line}\n"));
         }
     }
     all
+}
+
+/// The motor that an event is about.
+fn motor_of(event: &str) -> u16 {
+    match heard(event) {
+        Some((_, frame)) => source(&frame).unwrap_or(0),
+        None => event
+            .split(' ')
+            .nth(1)
+            .map_or(0, |word| word.parse().unwrap_or(0)),
+    }
 }
 
 #[cfg(test)]

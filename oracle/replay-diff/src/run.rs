@@ -81,11 +81,7 @@ fn chunk(plan: &Plan, from: u64, to: u64, replay: Replay) -> Outcome {
         let index = number(plan, n);
         let made = make(plan.seed, index);
         outcome.count.made(&made);
-        members.extend(made.good.map(|(case, expected)| Member {
-            index,
-            case,
-            expected,
-        }));
+        members.extend(Member::of(index, made));
     }
     let stations = stations(plan.seed, members);
     let texts: Vec<Text> = stations.iter().map(Station::text).collect();
@@ -198,13 +194,8 @@ mod tests {
         let mut known = HashMap::new();
         for from in (0..PLAN.schedules).step_by(CHUNK as usize) {
             let to = PLAN.schedules.min(from + CHUNK);
-            let good = (from..to).filter_map(|index| Some((index, make(PLAN.seed, index).good?)));
-            let member = |(index, (case, expected))| Member {
-                index,
-                case,
-                expected,
-            };
-            let texts = stations(PLAN.seed, good.map(member).collect());
+            let members = (from..to).filter_map(|i| Member::of(i, make(PLAN.seed, i)));
+            let texts = stations(PLAN.seed, members.collect());
             let texts = texts.iter().map(Station::text);
             known.extend(texts.map(|text| (text.input, text.output)));
         }

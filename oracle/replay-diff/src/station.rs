@@ -1,7 +1,7 @@
 //! Several schedules on one station, each of a motor of its own. The Rust runs one motor at a time; on
 //! the station each must answer as if it were alone, so the sessions are merged by time.
 use crate::compare::Text;
-use crate::make::{Case, Expected};
+use crate::make::{Case, Expected, Made};
 use crate::merge::merge;
 use crate::waits::source;
 use common::random::Random;
@@ -17,6 +17,18 @@ pub struct Member {
     pub index: u64,
     pub case: Case,
     pub expected: Expected,
+}
+
+impl Member {
+    /// None where every attempt was thrown away.
+    pub fn of(index: u64, made: Made) -> Option<Member> {
+        let (case, expected) = made.good?;
+        Some(Member {
+            index,
+            case,
+            expected,
+        })
+    }
 }
 
 pub struct Station {
@@ -102,13 +114,8 @@ mod tests {
     use crate::make::make;
 
     fn members(seed: u64) -> Vec<Member> {
-        let good = (0..400).filter_map(|index| Some((index, make(seed, index).good?)));
-        let member = |(index, (case, expected))| Member {
-            index,
-            case,
-            expected,
-        };
-        good.map(member).collect()
+        let members = (0..400).filter_map(|index| Member::of(index, make(seed, index)));
+        members.collect()
     }
 
     /// No schedule is lost, and a station has no id twice.

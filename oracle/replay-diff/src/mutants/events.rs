@@ -1,8 +1,8 @@
 //! Programs that read events wrongly.
 use super::lines::{frame_for, frame_not, number_at, quiet, word_at, words_for};
-use super::{Change, Mutant, Taken};
+use super::{Change, Lines, Mutant, Taken};
 use crate::text::heard;
-use crate::waits::kind_of;
+use crate::waits::{kind_of, source};
 use ops::frame::Frame;
 
 const fn event(name: &'static str, program: &'static str, take: fn(&str) -> Taken) -> Mutant {
@@ -15,6 +15,11 @@ const fn event(name: &'static str, program: &'static str, take: fn(&str) -> Take
 }
 
 pub const ALL: &[Mutant] = &[
+    Mutant {
+        name: "first place",
+        program: "gives each frame to the motor that was registered first",
+        change: Change::EventAfter(first_place),
+    },
     event(
         "deaf",
         "takes no frame, and answers as if it did",
@@ -233,6 +238,24 @@ pub const ALL: &[Mutant] = &[
         },
     ),
 ];
+
+/// Gives each frame of a registered motor to the one that was registered first.
+fn first_place(before: &mut Lines, event: &str) -> Taken {
+    let words: Vec<&str> = event.split(' ').collect();
+    if words[0] == "register" {
+        before.insert(words[1].to_string(), String::new());
+        before
+            .entry("first".to_string())
+            .or_insert(words[1].to_string());
+    }
+    let first = before.get("first").and_then(|id| id.parse::<u8>().ok());
+    frame_for(event, |frame| {
+        let known = source(frame).is_some_and(|id| before.contains_key(&id.to_string()));
+        if let (Some(first), true) = (first, known) {
+            frame.id = frame.id & !0xFF00 | u32::from(first) << 8;
+        }
+    })
+}
 
 /// A frame of one type taken for another.
 fn retyped(event: &str, from: u32, to: u32) -> Taken {

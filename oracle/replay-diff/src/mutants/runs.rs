@@ -9,6 +9,11 @@ use ops::frame::hex;
 
 pub const ALL: &[Mutant] = &[
     answer(
+        "one angle",
+        "holds one angle for all motors, the last heard",
+        |memory, event, said| one_angle(memory, event, said),
+    ),
+    answer(
         "old angle",
         "stops at the angle that was held before its read",
         |memory, event, said| old_angle(memory, event, said),
@@ -71,6 +76,20 @@ impl Memory {
             let line = said.iter().find(|line| line.starts_with(beginning));
             self.set(beginning, line.map_or("", |line| line));
         }
+    }
+}
+
+fn one_angle(memory: &mut Memory, event: &str, said: &mut [String]) {
+    let name = "reading 7019 F32 ";
+    if let Some((_, frame)) = heard(event) {
+        if said[0] == "ok" && kind_of(frame.id) == 17 && frame.data.starts_with(&[0x19, 0x70]) {
+            let [.., a, b, c, d] = frame.data;
+            let line = format!("{name}{:08X}", u32::from_le_bytes([a, b, c, d]));
+            memory.station.insert(name.to_string(), line);
+        }
+    }
+    for line in said.iter_mut().filter(|line| line.starts_with(name)) {
+        *line = memory.station.get(name).unwrap_or(line).clone();
     }
 }
 
