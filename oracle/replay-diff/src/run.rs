@@ -141,7 +141,10 @@ impl Outcome {
     /// All lines to print but the last.
     pub fn said(&self, seed: u64, replay: Replay) -> Vec<String> {
         let shown = self.differ.iter().take(SHOWN);
-        let show = |numbers: &Vec<u64>| only(seed, numbers, replay).unwrap_or_else(|shown| shown);
+        let show = |numbers: &Vec<u64>| match only(seed, numbers, replay) {
+            Ok(same) => format!("{same} by itself, but not after others in one process"),
+            Err(shown) => shown,
+        };
         let mut lines: Vec<String> = shown.map(show).collect();
         if self.differ.len() > SHOWN {
             lines.push(format!("all that differ: {:?}", self.differ));
