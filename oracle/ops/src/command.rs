@@ -154,6 +154,26 @@ impl Command {
         }
     }
 
+    /// The same with another timeout; one that is given none stays as it is.
+    pub fn with_timeout(&self, t: u64) -> Command {
+        match *self {
+            Command::Ping(_) => Command::Ping(t),
+            Command::PingWithHostId(host, _) => Command::PingWithHostId(host, t),
+            Command::EnsureControlMode(mode, _) => Command::EnsureControlMode(mode, t),
+            Command::GetProtocolFlag(_) => Command::GetProtocolFlag(t),
+            Command::SetProtocol(protocol, _) => Command::SetProtocol(protocol, t),
+            Command::GetControlMode(_) => Command::GetControlMode(t),
+            Command::ControlledStop(_) => Command::ControlledStop(t),
+            Command::GetParameter(id, _) => Command::GetParameter(id, t),
+            Command::GetParameterWithHostId(id, host, _) => {
+                Command::GetParameterWithHostId(id, host, t)
+            }
+            Command::GetParameterF32(id, _) => Command::GetParameterF32(id, t),
+            Command::GetParameterI8(id, _) => Command::GetParameterI8(id, t),
+            other => other,
+        }
+    }
+
     /// Name and arguments, as a session has them.
     pub fn text(&self) -> String {
         match *self {

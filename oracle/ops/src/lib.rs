@@ -5,6 +5,7 @@
 #![cfg(rust_found)]
 
 pub mod command;
+pub mod direct;
 pub mod frame;
 pub mod held;
 pub mod log;

@@ -1,5 +1,6 @@
 //! Runs a schedule on the unchanged RobstrideMotor.
 use crate::command::Command;
+use crate::direct::Director;
 use crate::frame::Frame;
 use crate::held::Held;
 use crate::log::{Entry, Hearing, Log, Waiting, What, Why};
@@ -21,7 +22,22 @@ const WRITE_WAIT: &str = "MOTORBRIDGE_ROBSTRIDE_WRITE_ACK_TIMEOUT_MS";
 /// that document 01 doesn't know.
 pub fn run(schedule: &Schedule) -> Result<Log, String> {
     schedule.check()?;
-    let recorder = Recorder::new(schedule);
+    record(schedule, &Recorder::new(schedule, None))?.into_log(schedule)
+}
+
+/// The schedule that a director makes of one with no commands; it is run on the way.
+pub fn direct(schedule: Schedule, director: Box<dyn Director>) -> Result<Schedule, String> {
+    let recorder = record(&schedule, &Recorder::new(&schedule, Some(director)))?;
+    let mut recording = recorder.lock();
+    Ok(Schedule {
+        commands: std::mem::take(&mut recording.commands),
+        frames: std::mem::take(&mut recording.told),
+        answers: std::mem::take(&mut recording.answers),
+        ..schedule
+    })
+}
+
+fn record(schedule: &Schedule, recorder: &Recorder) -> Result<Recorder, String> {
     let bus = Arc::new(RecorderBus(recorder.clone()));
     match RobstrideMotor::new(schedule.motor, schedule.host, &schedule.model, bus) {
         Ok(motor) => {
@@ -40,7 +56,7 @@ pub fn run(schedule: &Schedule) -> Result<Log, String> {
             recorder.record(schedule.registered, what);
         }
     }
-    recorder.into_log(schedule)
+    Ok(recorder.clone())
 }
 
 fn beginning(schedule: &Schedule) -> Beginning {
@@ -77,16 +93,23 @@ struct Recording {
     sent: usize,
     /// The first answer of the Rust's that document 01 doesn't know.
     unknown: Option<String>,
+    director: Option<Box<dyn Director>>,
+    /// What the director said.
+    commands: Vec<(u64, Command)>,
+    told: Vec<(u64, Frame)>,
 }
 
 impl Recorder {
-    fn new(schedule: &Schedule) -> Recorder {
+    fn new(schedule: &Schedule, director: Option<Box<dyn Director>>) -> Recorder {
         Recorder(Arc::new(Mutex::new(Recording {
             entries: Vec::new(),
             frames: Vec::new(),
             answers: schedule.answers.clone(),
             sent: 0,
             unknown: None,
+            director,
+            commands: Vec::new(),
+            told: Vec::new(),
         })))
     }
 
@@ -127,14 +150,30 @@ impl Recording {
     }
 
     /// Schedules the answers to the frame that was just sent.
-    fn answer(&mut self) {
+    fn answer(&mut self, frame: &Frame) {
         let sent = self.sent;
         self.sent += 1;
+        if let Some(director) = &mut self.director {
+            let told = director.sent(now(), frame).into_iter();
+            let answer = |(after, frame)| Answer { sent, after, frame };
+            self.answers.extend(told.map(answer));
+        }
         let mut answers = self.answers.clone();
         answers.retain(|answer| answer.sent == sent);
         for answer in answers {
             self.schedule(now() + answer.after, answer.frame);
         }
+    }
+
+    /// Asks the director for the next command, if there is one, and schedules the frames it tells.
+    fn ask(&mut self) -> Option<(u64, Command)> {
+        let next = self.director.as_mut()?.next(now());
+        for (time, frame) in next.frames {
+            self.schedule(time, frame);
+            self.told.push((time, frame));
+        }
+        self.commands.extend(next.command);
+        next.command
     }
 }
 
@@ -143,8 +182,9 @@ struct RecorderBus(Recorder);
 
 impl CanBus for RecorderBus {
     fn send(&self, frame: CanFrame) -> RustResult<()> {
-        self.0.record(now(), What::Sent(frame.into()));
-        self.0.lock().answer();
+        let frame = frame.into();
+        self.0.record(now(), What::Sent(frame));
+        self.0.lock().answer(&frame);
         Ok(())
     }
 
@@ -170,13 +210,20 @@ impl Listener {
         }
         self.record(What::Registered(Ok(self.held())));
         for (time, command) in &schedule.commands {
-            clock::pass(duration(*time));
-            self.command(command);
+            self.command(*time, command);
+        }
+        while let Some((time, command)) = self.ask() {
+            self.command(time, &command);
         }
         clock::pass_all();
     }
 
-    fn command(&self, command: &Command) {
+    fn ask(&self) -> Option<(u64, Command)> {
+        self.recorder.lock().ask()
+    }
+
+    fn command(&self, time: u64, command: &Command) {
+        clock::pass(duration(time));
         self.record(What::Started(*command));
         let result = match command.call(&self.motor) {
             Ok(given) => Ok(given),

@@ -17,6 +17,8 @@ const MOST_READINGS: usize = 96;
 pub struct Detail {
     /// A step also where the Rust polled, with no frame heard since its last look, and went on waiting.
     pub polls: bool,
+    /// A step also at each frame that the Rust slept through, in a read or a pause.
+    pub frames: bool,
     /// A look after each event.
     pub looks: bool,
 }
@@ -38,11 +40,15 @@ impl Session {
     /// The session of a log. An error says what lies beyond document 01.
     pub fn of(log: &Log, detail: Detail) -> Result<Session, String> {
         let mut writer = Writer::new(log, detail);
-        for entry in &log.entries {
+        for (i, entry) in log.entries.iter().enumerate() {
             if entry.held().is_some_and(|h| h.values.len() > MOST_READINGS) {
                 return Err(format!("more than {MOST_READINGS} readings held"));
             }
             writer.entry(entry);
+            let woke = matches!(log.entries.get(i + 1), Some(next) if next.what == What::Woke);
+            if let (What::Heard(_, _, held), false) = (&entry.what, woke) {
+                writer.slept_through(entry.time, held);
+            }
         }
         Ok(Session {
             exchanges: writer.exchanges,
@@ -97,6 +103,8 @@ struct Writer<'a> {
     exchanges: Vec<Exchange>,
     act: Option<Act>,
     running: Option<Running>,
+    /// Why the Rust waits, or waited last.
+    why: Option<Why>,
     clock: u64,
     /// Whether a frame was heard since the last start or step.
     heard: bool,
@@ -110,6 +118,7 @@ impl<'a> Writer<'a> {
             exchanges: Vec::new(),
             act: None,
             running: None,
+            why: None,
             clock: 0,
             heard: false,
         }
@@ -168,6 +177,17 @@ impl<'a> Writer<'a> {
         self.look(held);
     }
 
+    /// A step at a frame that didn't wake the Rust: it goes on waiting until its due time.
+    fn slept_through(&mut self, time: u64, held: &Held) {
+        let due = self.running.as_ref().map_or(0, |running| running.due);
+        if self.detail.frames && self.why != Some(Why::Poll) && time < due {
+            self.clock = time;
+            let answer = format!("waiting due {due}");
+            self.say(step(self.log.motor, time), vec![answer]);
+            self.look(held);
+        }
+    }
+
     fn begin(&mut self, event: String, woke: bool) {
         self.act = Some(Act {
             event,
@@ -177,6 +197,7 @@ impl<'a> Writer<'a> {
     }
 
     fn waits(&mut self, time: u64, waiting: &Waiting) {
+        self.why = Some(waiting.why);
         if waiting.why == Why::Poll && self.goes_on(waiting.due) && !self.detail.polls {
             self.act = None;
         } else {

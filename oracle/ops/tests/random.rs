@@ -172,7 +172,12 @@ fn random_schedules() {
         frames += log.sent().len();
         results += log.results().len();
         let session = |polls, looks| {
-            Session::of(&log, Detail { polls, looks }).expect("few readings are held")
+            let detail = Detail {
+                polls,
+                frames: false,
+                looks,
+            };
+            Session::of(&log, detail).expect("few readings are held")
         };
         let (every, few) = (session(true, false), session(false, false));
         check(&every.exchanges);

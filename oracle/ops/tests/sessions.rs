@@ -6,13 +6,16 @@ mod common;
 
 use common::*;
 use ops::command::Command;
+use ops::direct::{Director, Next};
 use ops::frame::Frame;
 use ops::motor::ControlMode;
+use ops::run::direct;
 use ops::schedule::Schedule;
 use ops::session::{Detail, Session};
 
 const PLAIN: Detail = Detail {
     polls: false,
+    frames: false,
     looks: false,
 };
 
@@ -64,6 +67,7 @@ fn text_of_a_session() {
 fn polls_as_steps() {
     let every = Detail {
         polls: true,
+        frames: false,
         looks: false,
     };
     let exchanges = session(asked(0, Command::Enable), every).exchanges;
@@ -96,6 +100,57 @@ fn a_step_after_each_frame() {
             ("step 1 152", "finished none"),
         ],
     );
+}
+
+/// A frame that a read doesn't wake at has a step of its own, if asked for, which waits on.
+#[test]
+fn a_step_at_a_frame_slept_through() {
+    let frames = Detail {
+        frames: true,
+        ..PLAIN
+    };
+    let schedule = asked(0, Command::GetParameterI8(0x7005, 200))
+        .frame(120, status())
+        .frame(140, reply(0x7005, 5));
+    let exchanges = session(schedule, frames).exchanges;
+    let events: Vec<&str> = exchanges[2..].iter().map(|e| &e.event[..]).collect();
+    let (status, reply) = (
+        "(0.120000) can0 028001FD#7FFF7FFF7FFF00FA",
+        "(0.140000) can0 110001FD#0570000005000000",
+    );
+    assert_eq!(events, [status, "step 1 120", reply, "step 1 140"]);
+    assert_eq!(exchanges[3].answers, ["waiting due 300"]);
+    assert_eq!(exchanges[5].answers, ["finished i8 5"]);
+}
+
+/// A director that pings once and answers, and the schedule that is left of it.
+struct Pinging(Option<Command>);
+
+impl Director for Pinging {
+    fn next(&mut self, now: u64) -> Next {
+        let frames = vec![(now + 5, status())];
+        let command = self.0.take().map(|command| (now + 10, command));
+        Next { frames, command }
+    }
+
+    fn sent(&mut self, _: u64, _: &Frame) -> Vec<(u64, Frame)> {
+        vec![(20, Frame::heard(0x0000_01FD, [7; 8]))]
+    }
+}
+
+#[test]
+fn a_schedule_made_on_the_way() {
+    let director = Pinging(Some(Command::Ping(200)));
+    let beginning = Schedule::new(1, 0xFD, "rs-00", 0, 100);
+    let made = direct(beginning.clone(), Box::new(director)).expect("it runs");
+    let answer = Frame::heard(0x0000_01FD, [7; 8]);
+    let by_hand = beginning
+        .command(110, Command::Ping(200))
+        .frame(105, status())
+        .frame(139, status())
+        .answer(0, 20, answer);
+    assert_eq!(format!("{made:?}"), format!("{by_hand:?}"));
+    assert_eq!(log(made).results().len(), 1);
 }
 
 /// With write wait 0 several frames come in one go: each further one has a step of its own.
@@ -186,6 +241,7 @@ fn due_times_of_ensure_control_mode() {
 fn looks_and_refused_frames() {
     let looks = Detail {
         polls: false,
+        frames: false,
         looks: true,
     };
     let schedule = Schedule::new(1, 0xFD, "rs-00", 0, 100)
