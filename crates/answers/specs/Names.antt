@@ -1,0 +1,50 @@
+-- Names as the Rust has them. Definitions only.
+use Prim.Native.Nat.{ℕ}
+use mathlib.Core.List.{List}
+use Rattle.codec.specs.declared.registers.ControlMode.{ControlMode}
+use Rattle.codec.specs.declared.registers.ControlMode.the-variants as mode
+use Rattle.engine.specs.declared.command.Command.{Command}
+use Rattle.engine.specs.declared.command.Command.the-variants as command
+use Rattle.text.specs.Ascii.{ascii}
+use Rattle.text.specs.Words.{wordAt}
+
+-- the place of a mode and of a command among their names
+unfoldable pub modePlace : ControlMode → ℕ
+modePlace mode.Mit = 0
+modePlace mode.Position = 1
+modePlace mode.Velocity = 2
+modePlace mode.PositionCsp = 3
+
+unfoldable pub commandPlace : Command → ℕ
+commandPlace (command.Ping t) = 0
+commandPlace (command.PingWithHostId h t) = 1
+commandPlace (command.SetMode m) = 2
+commandPlace (command.EnsureControlMode m t) = 3
+commandPlace command.SetZeroPosition = 4
+commandPlace command.SaveParameters = 5
+commandPlace (command.GetProtocolFlag t) = 6
+commandPlace (command.SetProtocol p t) = 7
+commandPlace (command.SetDeviceId n) = 8
+commandPlace command.Enable = 9
+commandPlace command.Disable = 10
+commandPlace command.ClearError = 11
+commandPlace (command.SetActiveReport b) = 12
+commandPlace (command.SendCmdMit p v kp kd t) = 13
+commandPlace (command.SetVelocityTarget v) = 14
+commandPlace (command.GetControlMode t) = 15
+commandPlace (command.ControlledStop t) = 16
+commandPlace (command.WriteParameter id v) = 17
+commandPlace (command.SendCmdPosVelCsp p v) = 18
+commandPlace (command.SendCmdPosVelPp p v a) = 19
+commandPlace (command.RequestParameter id) = 20
+commandPlace (command.GetParameter id t) = 21
+commandPlace (command.GetParameterWithHostId id h t) = 22
+commandPlace (command.GetParameterF32 id t) = 23
+commandPlace (command.GetParameterI8 id t) = 24
+
+abbrev pub modeName : ControlMode → List ℕ
+modeName m = wordAt (ascii "mit pp velocity csp") (modePlace m)
+
+-- the Rust method's name
+abbrev pub commandName : Command → List ℕ
+commandName c = wordAt (ascii "ping ping_with_host_id set_mode ensure_control_mode set_zero_position save_parameters get_protocol_flag set_protocol set_device_id enable disable clear_error set_active_report send_cmd_mit set_velocity_target get_control_mode controlled_stop write_parameter send_cmd_pos_vel_csp send_cmd_pos_vel_pp request_parameter get_parameter get_parameter_with_host_id get_parameter_f32 get_parameter_i8") (commandPlace c)

@@ -1,0 +1,110 @@
+-- What is said to an event other than a look. Definitions only.
+use Prim.Native.Nat.{ℕ, _/_, _%_}
+use mathlib.Core.List.{List, [], _∷_, _++_}
+use Rattle.codec.specs.declared.bus.CanFrame.{CanFrame}
+use Rattle.codec.specs.declared.error.Checked.{Checked}
+use Rattle.codec.specs.declared.error.Checked.the-variants as checked
+use Rattle.codec.specs.declared.error.LastMode.{LastMode}
+use Rattle.codec.specs.declared.error.LastMode.the-variants as last
+use Rattle.codec.specs.declared.error.Refusal.{Refusal}
+use Rattle.codec.specs.declared.error.Refusal.the-variants as refusal
+use Rattle.codec.specs.Refusals.{numberOf}
+use Rattle.engine.specs.declared.command.Outcome.{Outcome}
+use Rattle.engine.specs.declared.command.Outcome.the-variants as outcome
+use Rattle.engine.specs.declared.command.Said.{Said}
+use Rattle.engine.specs.declared.command.Said.the-variants as said
+use Rattle.text.specs.Ascii.{ascii}
+use Rattle.text.specs.Fields.{fieldsText}
+use Rattle.text.specs.Put.{digitsOf, decimalOf}
+use Rattle.answers.specs.Values.{namedText, lineText, endOfLine, space, valueText, signedText, payloadNumber}
+use Rattle.answers.specs.Names.{modeName}
+
+abbrev pub okText : List ℕ
+okText = ascii "ok\n"
+
+-- the last value read after a mode write, or none
+unfoldable pub lastText : LastMode → List ℕ
+lastText last.Unread = ascii " none"
+lastText (last.Read v) = space ++ signedText v
+
+abbrev pub readFailed : ℕ → ℕ → List ℕ
+readFailed id status = fieldsText (id ∷ status ∷ 0 ∷ 0 ∷ 0 ∷ 0 ∷ 0 ∷ 0 ∷ []) (ascii "42")
+
+-- what 14 and 18 carry
+unfoldable pub carried : Refusal → List ℕ
+carried (refusal.ReadFailed id status) = readFailed id status
+carried (refusal.ModeNotReached last) = lastText last
+carried refusal.MotorIdOutOfRange = []
+carried refusal.HostIdOutOfRange = []
+carried refusal.UnknownModel = []
+carried refusal.StationFull = []
+carried refusal.IdRegistered = []
+carried refusal.IdNotRegistered = []
+carried refusal.TimeOutOfRange = []
+carried refusal.OperationRunning = []
+carried refusal.TimeoutTooLong = []
+carried refusal.UnlistedParameter = []
+carried refusal.KindDiffers = []
+carried refusal.UnknownProtocol = []
+carried refusal.FrameNotAccepted = []
+carried refusal.ReadingsFull = []
+carried refusal.WindowsGone = []
+carried refusal.UnsupportedRunMode = []
+carried refusal.NewDeviceIdZero = []
+carried refusal.ReadingOfAnotherKind = []
+carried refusal.NothingRunning = []
+carried refusal.NotPingReply = []
+carried refusal.NotVersionReply = []
+
+-- refused N
+unfoldable pub refusedText : Refusal → List ℕ
+refusedText r = namedText (ascii "refused") (numberOf r) (ascii "D") ++ carried r ++ endOfLine
+
+-- of a registration, a frame or a removal
+unfoldable pub toldText : Checked → List ℕ
+toldText checked.Passed = okText
+toldText (checked.Refused r) = refusedText r
+
+-- (SECONDS.MICROS) can0, and a space
+unfoldable pub stampText : ℕ → List ℕ
+stampText time = ascii "(" ++ decimalOf (time / 1000) ++ ascii "." ++ digitsOf 10 3 (time % 1000) ++ ascii "000) can0 "
+
+-- (SECONDS.MICROS) can0 ID#DATA
+unfoldable pub frameText : CanFrame → ℕ → List ℕ
+frameText f time = stampText time ++ digitsOf 16 8 (f .«arbitration_id») ++ ascii "#" ++ digitsOf 16 16 (payloadNumber (f .data)) ++ endOfLine
+
+-- ping DEVICE RESPONDER PAYLOAD
+unfoldable pub pingText : ℕ → ℕ → List ℕ → List ℕ
+pingText device responder payload = ascii "ping" ++ fieldsText (device ∷ responder ∷ payloadNumber payload ∷ 0 ∷ 0 ∷ 0 ∷ 0 ∷ 0 ∷ []) (ascii "22P")
+
+unfoldable pub outcomeText : Outcome → List ℕ → List ℕ
+outcomeText outcome.Done result = ascii "none"
+outcomeText (outcome.Ping device responder) result = pingText device responder result
+outcomeText (outcome.Mode m) result = ascii "mode " ++ modeName m
+outcomeText (outcome.Value v) result = ascii "value " ++ valueText v
+outcomeText (outcome.Flag flag) result = namedText (ascii "flag") flag (ascii "2")
+outcomeText (outcome.F32 w) result = namedText (ascii "f32") (w .bits) (ascii "8")
+outcomeText (outcome.I8 v) result = ascii "i8 " ++ signedText v
+
+-- finished RESULT
+unfoldable pub finishedText : Outcome → List ℕ → List ℕ
+finishedText o result = ascii "finished " ++ outcomeText o result ++ endOfLine
+
+-- the frame, where one is sent
+unfoldable pub sentText : Said → CanFrame → ℕ → List ℕ
+sentText (said.Sent due) f time = frameText f time
+sentText (said.Waiting due) f time = []
+sentText (said.Finished r) f time = []
+sentText (said.FinishedWith r) f time = frameText f time
+sentText (said.Refused r) f time = []
+
+unfoldable pub lastLine : Said → List ℕ → List ℕ
+lastLine (said.Sent due) result = lineText (ascii "sent due") due (ascii "D")
+lastLine (said.Waiting due) result = lineText (ascii "waiting due") due (ascii "D")
+lastLine (said.Finished r) result = finishedText r result
+lastLine (said.FinishedWith r) result = finishedText r result
+lastLine (said.Refused r) result = refusedText r
+
+-- of a start or a step at this time
+unfoldable pub saidText : Said → CanFrame → List ℕ → ℕ → List ℕ
+saidText s f result time = sentText s f time ++ lastLine s result

@@ -1,0 +1,88 @@
+// Names as the Rust has them.
+use codec::model::Model;
+use codec::registers::ControlMode;
+use engine::command::Command;
+ghost use mathlib.Core.Path.{_≡_};
+ghost use Rattle.text.specs.Put.{Put};
+ghost use Rattle.codec.specs.Models.{nameOf};
+ghost use Rattle.answers.specs.Names.{modePlace, commandPlace, modeName, commandName};
+
+// A mode's name.
+pub(crate) fn put_mode(mode: ControlMode, out: &mut [u8], at: usize) -> usize
+    ensures { λ r. ⌜ Put (now (out .entry)) at (modeName mode) (now (out .exit)) r ⌝ }
+{
+    let k = mode_place(mode);
+    let name = text::word(b"mit pp velocity csp", k);
+    text::put_bytes(out, at, name)
+}
+
+fn mode_place(mode: ControlMode) -> usize
+    ensures { λ r. ⌜ r ≡ modePlace mode ⌝ }
+{
+    match mode {
+        ControlMode::Mit => 0,
+        ControlMode::Position => 1,
+        ControlMode::Velocity => 2,
+        ControlMode::PositionCsp => 3,
+    }
+}
+
+// A model's name.
+pub(crate) fn put_model(model: Model, out: &mut [u8], at: usize) -> usize
+    ensures { λ r. ⌜ Put (now (out .entry)) at (nameOf model) (now (out .exit)) r ⌝ }
+{
+    match model {
+        Model::Rs00 => text::put_bytes(out, at, b"rs-00"),
+        Model::Rs01 => text::put_bytes(out, at, b"rs-01"),
+        Model::Rs02 => text::put_bytes(out, at, b"rs-02"),
+        Model::Rs03 => text::put_bytes(out, at, b"rs-03"),
+        Model::Rs04 => text::put_bytes(out, at, b"rs-04"),
+        Model::Rs05 => text::put_bytes(out, at, b"rs-05"),
+        Model::Rs05el => text::put_bytes(out, at, b"rs-05el"),
+        Model::Rs06 => text::put_bytes(out, at, b"rs-06"),
+    }
+}
+
+// A command's name, the Rust method's.
+pub(crate) fn put_command(command: Command, out: &mut [u8], at: usize) -> usize
+    ensures { λ r. ⌜ Put (now (out .entry)) at (commandName command) (now (out .exit)) r ⌝ }
+{
+    let k = command_place(command);
+    let name = text::word(
+        b"ping ping_with_host_id set_mode ensure_control_mode set_zero_position save_parameters get_protocol_flag set_protocol set_device_id enable disable clear_error set_active_report send_cmd_mit set_velocity_target get_control_mode controlled_stop write_parameter send_cmd_pos_vel_csp send_cmd_pos_vel_pp request_parameter get_parameter get_parameter_with_host_id get_parameter_f32 get_parameter_i8",
+        k,
+    );
+    text::put_bytes(out, at, name)
+}
+
+fn command_place(command: Command) -> usize
+    ensures { λ r. ⌜ r ≡ commandPlace command ⌝ }
+{
+    match command {
+        Command::Ping(_) => 0,
+        Command::PingWithHostId(_, _) => 1,
+        Command::SetMode(_) => 2,
+        Command::EnsureControlMode(_, _) => 3,
+        Command::SetZeroPosition => 4,
+        Command::SaveParameters => 5,
+        Command::GetProtocolFlag(_) => 6,
+        Command::SetProtocol(_, _) => 7,
+        Command::SetDeviceId(_) => 8,
+        Command::Enable => 9,
+        Command::Disable => 10,
+        Command::ClearError => 11,
+        Command::SetActiveReport(_) => 12,
+        Command::SendCmdMit(_, _, _, _, _) => 13,
+        Command::SetVelocityTarget(_) => 14,
+        Command::GetControlMode(_) => 15,
+        Command::ControlledStop(_) => 16,
+        Command::WriteParameter(_, _) => 17,
+        Command::SendCmdPosVelCsp(_, _) => 18,
+        Command::SendCmdPosVelPp(_, _, _) => 19,
+        Command::RequestParameter(_) => 20,
+        Command::GetParameter(_, _) => 21,
+        Command::GetParameterWithHostId(_, _, _) => 22,
+        Command::GetParameterF32(_, _) => 23,
+        Command::GetParameterI8(_, _) => 24,
+    }
+}
