@@ -1,0 +1,47 @@
+-- Why a line isn't an event, as text. Definitions only.
+use Prim.Native.Nat.{ℕ}
+use mathlib.Core.Bool.{cond}
+use mathlib.Core.List.{List, [], _∷_, _++_}
+use lib.Dec.{eqb}
+use Rattle.session.specs.declared.event.Reason.{Reason}
+use Rattle.session.specs.declared.event.Reason.the-variants as reason
+use Rattle.text.specs.Ascii.{ascii}
+use Rattle.text.specs.Put.{decimalOf}
+
+-- what a letter of a shape asks for
+unfoldable pub wantedText : ℕ → List ℕ
+wantedText letter =
+    cond (eqb letter 0x42) (ascii "a number up to 255")
+    (cond (eqb letter 0x48) (ascii "a number up to 0xFFFF")
+    (cond (eqb letter 0x57) (ascii "a number up to 0xFFFFFFFF")
+    (cond (eqb letter 0x46) (ascii "0 or 1")
+    (cond (eqb letter 0x44) (ascii "16 hexadecimal digits")
+    (cond (eqb letter 0x43) (ascii "mit, pp, velocity or csp")
+    (cond (eqb letter 0x4B) (ascii "i8, u8, u16, u32 or f32")
+    (cond (eqb letter 0x56) (ascii "a value of its kind: it is wider")
+    (cond (eqb letter 0x58) (ascii "a word") (ascii "a number below 2^64, in decimal or after 0x")))))))))
+
+abbrev pub countText : ℕ → List ℕ
+countText n = ascii "this event has " ++ decimalOf n ++ ascii " words, parted by single spaces"
+
+abbrev pub badWordText : ℕ → ℕ → List ℕ
+badWordText n letter = ascii "word " ++ decimalOf n ++ ascii " isn't " ++ wantedText letter
+
+unfoldable pub reasonText : Reason → List ℕ
+reasonText reason.LineTooLong = ascii "a line has at most 4096 bytes"
+reasonText reason.NoSuchEvent = ascii "an event is fresh, register, start, step, frame, look, remove or a line of a candump log"
+reasonText reason.NoSuchCommand = ascii "start ID TIME COMMAND: no such command"
+reasonText (reason.WordCount n) = countText n
+reasonText (reason.BadWord n letter) = badWordText n letter
+reasonText reason.LogWords = ascii "a line of a log is (SECONDS.MICROS) IFACE ID#DATA, and perhaps R or T"
+reasonText reason.Stamp = ascii "a time is (SECONDS.MICROS), with six digits after the point, below 2^64 milliseconds"
+reasonText reason.Direction = ascii "after ID#DATA only R or T may stand"
+reasonText reason.FrameId = ascii "a frame is ID#DATA, ID being 8 or 3 hexadecimal digits"
+reasonText reason.FrameData = ascii "DATA is 0 to 8 bytes, two hexadecimal digits each"
+reasonText reason.RemoteFrame = ascii "a remote frame isn't handed in"
+reasonText reason.FdFrame = ascii "a CAN FD frame isn't handed in"
+reasonText reason.ErrorFrame = ascii "an id above 1FFFFFFF marks an error frame, which isn't handed in"
+
+-- error TEXT
+unfoldable pub errorText : Reason → List ℕ
+errorText r = ascii "error " ++ reasonText r ++ ascii "\n"

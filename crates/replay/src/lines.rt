@@ -1,0 +1,157 @@
+// Standard input cut into lines, and the answers written before more is awaited.
+use crate::calls::Went;
+use crate::calls::on_line;
+use station::station::Station;
+use station::station::new;
+ghost use Prim.Native.Nat.{_≤_};
+
+// What is left after the whole lines of a read: the station, how many bytes of a line that isn't whole are kept, and whether every
+// write went well.
+pub struct Turn {
+    pub station: Station,
+    pub kept: usize,
+    pub good: bool,
+}
+
+// Where less than an answer's length is free, what stands in the buffer is written first.
+const ROOM: usize = 57344;
+
+// Of a line that fills the buffer so many bytes are kept: it is too long, whatever follows.
+const KEPT: usize = 5000;
+
+// Answers the lines of the input until it ends or a write fails. Nothing says that an input ends, so the turns are counted down
+// from a number that no run uses up.
+pub(crate) fn run(inp: &mut [u8], out: &mut [u8]) {
+    let mut st = new();
+    let mut kept: usize = 0;
+    let mut turns = u64::MAX;
+    while turns > 0 {
+        turns -= 1;
+        let n = read_after(inp, kept);
+        if n <= kept {
+            finish(st, inp, kept, out);
+            return;
+        }
+        let turn = whole_lines(st, inp, n, out);
+        if !turn.good {
+            complain();
+            return;
+        }
+        st = turn.station;
+        kept = turn.kept;
+    }
+}
+
+// A write failed, as where nobody reads the answers any more.
+fn complain() {
+    io::write_all(2, b"replay: an answer could not be written\n");
+}
+
+// Reads after the bytes kept, and answers how many there are then: no more where the input ends.
+fn read_after(inp: &mut [u8], kept: usize) -> usize {
+    if kept < inp.len() {
+        let part = &mut inp[kept..];
+        let got = libc::read(0, part);
+        let n = io::count(got, part);
+        return std::num::wrapping_add_usize(kept, n);
+    }
+    kept
+}
+
+// Answers the lines that end among the first n bytes, writes the answers, and keeps what follows the last line.
+fn whole_lines(st: Station, inp: &mut [u8], n: usize, out: &mut [u8]) -> Turn {
+    let mut s = st;
+    let mut from: usize = 0;
+    let mut at: usize = 0;
+    let mut good = true;
+    let mut end = line_end(inp, 0, n);
+    while end < n {
+        if ROOM < at {
+            good = flush(out, at, good);
+            at = 0;
+        }
+        let went = on_part(s, inp, from, end, out, at);
+        s = went.station;
+        at = went.at;
+        from = end + 1;
+        end = line_end(inp, from, n);
+    }
+    good = flush(out, at, good);
+    let kept = keep(inp, from, n);
+    Turn {
+        station: s,
+        kept,
+        good,
+    }
+}
+
+// The last line, where the input ends without LF.
+fn finish(st: Station, inp: &[u8], kept: usize, out: &mut [u8]) {
+    let went = on_part(st, inp, 0, kept, out, 0);
+    if !flush(out, went.at, true) {
+        complain();
+    }
+}
+
+// Answers the line between two places.
+fn on_part(st: Station, inp: &[u8], from: usize, end: usize, out: &mut [u8], at: usize) -> Went {
+    if from <= end {
+        if end <= inp.len() {
+            return on_line(st, &inp[from..end], out, at);
+        }
+    }
+    Went { station: st, at }
+}
+
+// The index of the first LF at or after `from` and below n, or n.
+fn line_end(inp: &[u8], from: usize, n: usize) -> usize
+    ensures { λ r. ⌜ (from ≤ n → from ≤ r) ⌝ }
+{
+    if n <= inp.len() {
+        if from <= n {
+            return bytes::scan::find(inp, from, n, b'\n');
+        }
+    }
+    n
+}
+
+// Moves the bytes from `from` up to n to the front, and answers how many are kept. Of those that fill the buffer only the
+// first are kept.
+fn keep(inp: &mut [u8], from: usize, n: usize) -> usize {
+    if n < from {
+        return 0;
+    }
+    let count = n - from;
+    if inp.len() <= count {
+        return KEPT;
+    }
+    move_down(inp, from, count);
+    count
+}
+
+// Moves `count` bytes from `from` to the front.
+fn move_down(inp: &mut [u8], from: usize, count: usize) {
+    let mut k: usize = 0;
+    while k < count {
+        move_byte(inp, k, std::num::wrapping_add_usize(from, k));
+        k += 1;
+    }
+}
+
+fn move_byte(inp: &mut [u8], to: usize, from: usize) {
+    if from < inp.len() {
+        if to < inp.len() {
+            inp[to] = inp[from];
+        }
+    }
+}
+
+// Writes the first n bytes of out, and answers whether this and what came before went well.
+fn flush(out: &[u8], n: usize, good: bool) -> bool {
+    if n <= out.len() {
+        if !io::write_all(1, &out[0..n]) {
+            return false;
+        }
+    }
+    good
+}

@@ -1,0 +1,10 @@
+// Replay: reads a recorded session, hands each event to a station, and writes what the station answers.
+mod calls;
+mod errors;
+mod lines;
+
+fn main() {
+    let mut inp = io::large_buffer();
+    let mut out = io::large_buffer();
+    lines::run(&mut inp, &mut out);
+}
