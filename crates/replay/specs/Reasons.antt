@@ -29,18 +29,18 @@ badWordText n letter = ascii "word " ++ decimalOf n ++ ascii " isn't " ++ wanted
 
 unfoldable pub reasonText : Reason → List ℕ
 reasonText reason.LineTooLong = ascii "a line has at most 4096 bytes"
-reasonText reason.NoSuchEvent = ascii "an event is fresh, register, start, step, frame, look, remove or a line of a candump log"
-reasonText reason.NoSuchCommand = ascii "start ID TIME COMMAND: no such command"
+reasonText reason.NoSuchEvent = ascii "no event begins with this word"
+reasonText reason.NoSuchCommand = ascii "start has no such command"
 reasonText (reason.WordCount n) = countText n
 reasonText (reason.BadWord n letter) = badWordText n letter
-reasonText reason.LogWords = ascii "a line of a log is (SECONDS.MICROS) IFACE ID#DATA, and perhaps R or T"
-reasonText reason.Stamp = ascii "a time is (SECONDS.MICROS), with six digits after the point, below 2^64 milliseconds"
-reasonText reason.Direction = ascii "after ID#DATA only R or T may stand"
-reasonText reason.FrameId = ascii "a frame is ID#DATA, ID being 8 or 3 hexadecimal digits"
-reasonText reason.FrameData = ascii "DATA is 0 to 8 bytes, two hexadecimal digits each"
+reasonText reason.LogWords = ascii "a log's line is (SECONDS.MICROS) IFACE ID#DATA"
+reasonText reason.Stamp = ascii "a time is (SECONDS.MICROS), below 2^64 ms"
+reasonText reason.Direction = ascii "only R or T may follow ID#DATA"
+reasonText reason.FrameId = ascii "ID is 8 or 3 hexadecimal digits before a #"
+reasonText reason.FrameData = ascii "DATA is 0 to 8 bytes, two digits each"
 reasonText reason.RemoteFrame = ascii "a remote frame isn't handed in"
 reasonText reason.FdFrame = ascii "a CAN FD frame isn't handed in"
-reasonText reason.ErrorFrame = ascii "an id above 1FFFFFFF marks an error frame, which isn't handed in"
+reasonText reason.ErrorFrame = ascii "an id above 1FFFFFFF marks an error frame"
 
 -- error TEXT
 unfoldable pub errorText : Reason → List ℕ
