@@ -10,11 +10,6 @@ use Rattle.text.specs.declared.numbers.Num.the-variants.{Value, Bad}
 use Rattle.text.specs.Words.{wordAt}
 use Rattle.text.specs.Numbers.{pick, inBase}
 
--- word r of names is w, and no word before it; r is n where none of the first n is
-pub record First (names w : List ℕ) (n r : ℕ) : Type 0 where
-  pub here : r < n → w ≡ wordAt names r
-  pub before : (k : ℕ) → k < r → k < n → w ≡ wordAt names k → ⊥
-
 -- how many digits a letter of a shape asks for: 2, 4, 8, and 16 for any other
 abbrev pub widthOf : ℕ → ℕ
 widthOf letter = cond (eqb letter 0x32) 2 (cond (eqb letter 0x34) 4 (cond (eqb letter 0x38) 8 16))

@@ -6,7 +6,7 @@ use text::Num;
 ghost use mathlib.Core.Path.{_≡_};
 ghost use mathlib.Core.Bool.{true};
 ghost use lib.ListN.{length};
-ghost use Rattle.vectors.specs.Requests.{First, widthOf, argumentOf, Read};
+ghost use Rattle.vectors.specs.Requests.{widthOf, argumentOf, Read};
 
 // The arguments of a request: its numbers, with 0 in the place of a name, and whether they are good.
 pub struct Args {
@@ -43,25 +43,11 @@ fn put_answer(k: usize, v: [u64; 6], name: &[u8], out: &mut [u8], at: usize) -> 
 
 // The number of the request that a word names; 22 for none.
 fn request_of(w: &[u8]) -> usize {
-    which(
+    text::which(
         b"build_ext_id ext_id_parts parameter_info from_raw validate_protocol_cmd encode_set_protocol encode_parameter_read encode_parameter_write encode_parameter_value decode_read_parameter_value decode_fault_report decode_ping_reply encode_version_request is_version_reply decode_version_reply motion_raw gain_raw status_value temperature model_limits encode_mit_command decode_status_frame",
         22,
         w,
     )
-}
-
-// Which of the first n words of names w is, the first that it is, and n for none.
-fn which(names: &[u8], n: usize, w: &[u8]) -> usize
-    ensures { λ r. ⌜ First (now (names .entry)) (now (w .entry)) n r ⌝ }
-{
-    let mut i: usize = 0;
-    while i < n {
-        if check::same(w, text::word(names, i)) {
-            return i;
-        }
-        i += 1;
-    }
-    n
 }
 
 // The words after the first, one for each letter of the shape. They are good where there are so many
