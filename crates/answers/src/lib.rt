@@ -1,4 +1,4 @@
-// What a session is answered (REPLAY.md, the output): text put into a lent buffer. Each function answers the next place.
+// What a session is answered (docs/REPLAY.md, the output): text put into a lent buffer. Each function answers the next place.
 mod flags;
 pub mod looks;
 mod names;

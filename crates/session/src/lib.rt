@@ -1,4 +1,4 @@
-// The lines of a session (REPLAY.md, the input): which event a line is, or why it is none.
+// The lines of a session (docs/REPLAY.md, the input): which event a line is, or why it is none.
 mod arguments;
 mod commands;
 pub mod event;
