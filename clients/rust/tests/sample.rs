@@ -1,0 +1,107 @@
+//! The recorded sample of crates/replay through the client, byte for byte.
+#[allow(dead_code)]
+mod common;
+
+use combradish_client::{Answer, Event, Recording, Station};
+use common::{event_lines, events, program, sample, scratch};
+use std::fs::{self, File};
+
+fn typed(line: &str) -> Event {
+    events::event(line).unwrap_or_else(|| panic!("{line:?} is no typed event"))
+}
+
+/// The answers of the sample, event by event, as lines.
+fn answer_lines<'a>(events: &[Event], answers: &'a str) -> Vec<Vec<&'a str>> {
+    let mut lines = answers.lines();
+    let mut of = |event: &Event| {
+        let mut answer: Vec<String> = Vec::new();
+        let mut shown = Vec::new();
+        while !event.form().is_whole(&answer) {
+            let line = lines.next().expect("the answers end too early");
+            answer.push(line.to_string());
+            shown.push(line);
+        }
+        shown
+    };
+    let all = events.iter().map(&mut of).collect();
+    assert_eq!(lines.next(), None, "answers beyond the last event");
+    all
+}
+
+#[test]
+fn every_line_is_a_typed_event() {
+    let session = sample("stdin");
+    let lines = event_lines(&session);
+    let mut other = Vec::new();
+    for line in &lines {
+        let printed = typed(line).to_string();
+        assert_eq!(typed(&printed), typed(line), "{printed:?} and {line:?}");
+        if printed != line {
+            other.push((line, printed));
+        }
+    }
+    // Lines that the sample writes in another way: digits of the other case, numbers of another base,
+    // leading zeros, ids above 65,535. All else prints to the byte.
+    for (line, printed) in &other {
+        println!("{line}\n    {printed}");
+    }
+    let (few, all) = (other.len(), lines.len());
+    assert!(few * 20 < all, "{few} of {all} lines print otherwise");
+}
+
+#[test]
+fn every_answer_prints_again() {
+    let session = sample("stdin");
+    let events: Vec<Event> = event_lines(&session).into_iter().map(typed).collect();
+    let answers = sample("stdout");
+    let mut printed = String::new();
+    for (event, lines) in events.iter().zip(answer_lines(&events, &answers)) {
+        let lines: Vec<String> = lines.iter().map(|line| line.to_string()).collect();
+        let answer = Answer::parse(event.form(), &lines)
+            .unwrap_or_else(|line| panic!("{event}: {line:?} is no answer"));
+        printed += &format!("{answer}\n");
+    }
+    assert!(printed == answers, "the answers print otherwise");
+}
+
+#[test]
+fn the_client_hears_the_recorded_answers() {
+    let (session_file, answers_file) = (scratch("sample.session"), scratch("sample.answers"));
+    let recording = Recording::none()
+        .session(File::create(&session_file).expect("a session file"))
+        .answers(File::create(&answers_file).expect("an answers file"));
+    let mut station = Station::open(&program(), recording).expect("replay starts");
+    let (session, mut printed, mut said) = (sample("stdin"), String::new(), String::new());
+    for line in event_lines(&session) {
+        let event = typed(line);
+        let answer = station.tell(&event).expect("an answer");
+        printed += &format!("{answer}\n");
+        said += &format!("{event}\n");
+    }
+    station.finish().expect("a good end");
+    let answers = sample("stdout");
+    let recorded = fs::read_to_string(answers_file).expect("the answers");
+    assert!(recorded == answers, "the recorded answers differ");
+    assert!(printed == answers, "the typed answers print otherwise");
+    let recorded = fs::read_to_string(session_file).expect("the session");
+    assert!(recorded == said, "the recorded session differs");
+}
+
+#[test]
+fn the_recorded_session_gives_the_same_again() {
+    let session: String = event_lines(&sample("stdin"))
+        .into_iter()
+        .map(|line| format!("{}\n", typed(line)))
+        .collect();
+    let file = scratch("again.session");
+    fs::write(&file, session).expect("a session file");
+    let output = std::process::Command::new(program())
+        .stdin(File::open(&file).expect("the session"))
+        .output()
+        .expect("replay runs");
+    assert!(output.status.success());
+    assert!(
+        output.stdout == sample("stdout").as_bytes(),
+        "the answers differ"
+    );
+}
