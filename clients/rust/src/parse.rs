@@ -25,53 +25,52 @@ impl Answer {
 }
 
 pub(crate) fn taken(lines: &[String]) -> Parsed<Taken> {
-    let read = |line: &String| match line.as_str() {
+    let read = |line: &str| match line {
         "ok" => Some(Taken::Ok),
         refused => refusal(refused).map(Taken::Refused),
     };
-    exact(lines.first().and_then(read), lines)
+    exact(line(lines, 0, read)?, lines)
 }
 
 pub(crate) fn reply(lines: &[String]) -> Parsed<Reply> {
-    let read = || match lines {
-        [line] => Some(Reply {
-            frame: None,
-            said: said(line)?,
-        }),
-        [first, line] => Some(Reply {
-            frame: Some(sent_frame(first)?),
-            said: said(line)?,
-        }),
-        _ => None,
+    let (frame, said) = match lines.len() {
+        1 => (None, line(lines, 0, said)?),
+        _ => (Some(line(lines, 0, sent_frame)?), line(lines, 1, said)?),
     };
-    let reply = exact(read(), lines)?;
-    match (reply.frame, reply.said) {
-        (Some(_), Said::Sent { .. } | Said::Finished(_)) => Ok(reply),
-        (None, Said::Waiting { .. } | Said::Finished(_) | Said::Refused(_)) => Ok(reply),
-        _ => Err(reply.said.to_string()),
+    match (frame, said) {
+        (Some(_), Said::Sent { .. } | Said::Finished(_))
+        | (None, Said::Waiting { .. } | Said::Finished(_) | Said::Refused(_)) => {
+            exact(Reply { frame, said }, lines)
+        }
+        _ => Err(said.to_string()),
     }
 }
 
 pub(crate) fn looked(lines: &[String]) -> Parsed<Looked> {
-    let read = match lines {
-        [line] => refusal(line).map(Looked::Refused),
-        _ => held(lines).map(|held| Looked::Held(Box::new(held))),
+    let read = match lines.len() {
+        1 => Looked::Refused(line(lines, 0, refusal)?),
+        _ => Looked::Held(Box::new(held(lines)?)),
     };
     exact(read, lines)
 }
 
+/// What stands in line `k`, or that line.
+fn line<T>(lines: &[String], k: usize, read: impl Fn(&str) -> Option<T>) -> Parsed<T> {
+    let line = lines.get(k).map_or("", String::as_str);
+    read(line).ok_or_else(|| line.to_string())
+}
+
 /// What was read, where it prints as the lines.
-fn exact<T: Display>(read: Option<T>, lines: &[String]) -> Parsed<T> {
-    let whole = lines.join("\n");
-    match read {
-        Some(read) if read.to_string() == whole => Ok(read),
-        Some(read) => {
-            let printed = read.to_string();
-            let mut pairs = lines.iter().zip(printed.split('\n'));
-            let wrong = pairs.find(|(line, printed)| line != printed);
-            Err(wrong.map_or(whole, |(line, _)| line.clone()))
-        }
-        None => Err(whole),
+fn exact<T: Display>(read: T, lines: &[String]) -> Parsed<T> {
+    let printed = read.to_string();
+    let wrong = lines
+        .iter()
+        .zip(printed.split('\n'))
+        .find(|(line, printed)| line != printed);
+    match wrong {
+        Some((line, _)) => Err(line.clone()),
+        None if lines.len() == printed.split('\n').count() => Ok(read),
+        None => Err(lines.join("\n")),
     }
 }
 
@@ -188,30 +187,33 @@ fn held_in<T>(line: &str, name: &str, read: fn(&[&str]) -> Option<T>) -> Option<
     }
 }
 
-fn held(lines: &[String]) -> Option<Held> {
-    let [motor, clock, responses, sequence, feedback_line, fault_line, ping_line, gains_line, running_line, rest @ .., end] =
-        lines
-    else {
-        return None;
+fn held(lines: &[String]) -> Parsed<Held> {
+    let held = Held {
+        registered: line(lines, 0, |line| registered(&after(line, "motor")?))?,
+        clock: line(lines, 1, |line| count(line, "clock"))?,
+        responses: line(lines, 2, |line| count(line, "responses"))?,
+        sequence: line(lines, 3, |line| count(line, "sequence"))?,
+        feedback: line(lines, 4, |line| held_in(line, "feedback", feedback))?,
+        fault: line(lines, 5, |line| held_in(line, "fault", fault))?,
+        ping: line(lines, 6, |line| held_in(line, "ping", ping))?,
+        gains: line(lines, 7, |line| gains(&after(line, "gains")?))?,
+        running: line(lines, 8, |line| held_in(line, "running", running))?,
+        readings: readings(lines)?,
     };
-    let readings: Vec<(u16, Value)> = rest
-        .iter()
-        .map(|line| reading(line))
-        .collect::<Option<_>>()?;
-    let rising = readings.windows(2).all(|pair| pair[0].0 < pair[1].0);
-    (end == "end" && rising && readings.len() <= 96).then_some(())?;
-    Some(Held {
-        registered: registered(&after(motor, "motor")?)?,
-        clock: count(clock, "clock")?,
-        responses: count(responses, "responses")?,
-        sequence: count(sequence, "sequence")?,
-        feedback: held_in(feedback_line, "feedback", feedback)?,
-        fault: held_in(fault_line, "fault", fault)?,
-        ping: held_in(ping_line, "ping", ping)?,
-        gains: gains(&after(gains_line, "gains")?)?,
-        running: held_in(running_line, "running", running)?,
-        readings,
-    })
+    let end = |line: &str| (line == "end").then_some(());
+    line(lines, lines.len().saturating_sub(1), end)?;
+    Ok(held)
+}
+
+/// The readings between line 9 and the last: at most 96, in rising id.
+fn readings(lines: &[String]) -> Parsed<Vec<(u16, Value)>> {
+    let mut found: Vec<(u16, Value)> = Vec::new();
+    for k in 9..lines.len().saturating_sub(1) {
+        let above = found.last().map(|(id, _)| *id);
+        let rises = |read: &(u16, Value)| above < Some(read.0) && k < 9 + 96;
+        found.push(line(lines, k, |line| reading(line).filter(rises))?);
+    }
+    Ok(found)
 }
 
 fn registered(words: &[&str]) -> Option<Registered> {

@@ -33,7 +33,7 @@ fn every_line_is_a_typed_event() {
     let session = sample("stdin");
     let lines = event_lines(&session);
     let mut other = Vec::new();
-    for line in &lines {
+    for &line in &lines {
         let printed = typed(line).to_string();
         assert_eq!(typed(&printed), typed(line), "{printed:?} and {line:?}");
         if printed != line {
@@ -62,6 +62,34 @@ fn every_answer_prints_again() {
         printed += &format!("{answer}\n");
     }
     assert!(printed == answers, "the answers print otherwise");
+}
+
+/// Answers with one byte changed: what is still taken prints as it came, and nothing panics.
+#[test]
+fn changed_answers_are_refused_or_exact() {
+    let session = sample("stdin");
+    let events: Vec<Event> = event_lines(&session).into_iter().map(typed).collect();
+    let answers = sample("stdout");
+    let (mut state, mut taken, mut tried) = (1u64, 0, 0);
+    for (event, lines) in events.iter().zip(answer_lines(&events, &answers)) {
+        let mut bytes = lines.join("\n").into_bytes();
+        state = state
+            .wrapping_mul(6364136223846793005)
+            .wrapping_add(1442695040888963407);
+        let place = (state >> 33) as usize % bytes.len();
+        bytes[place] = b" 09AFa-,#(\n~\0"[(state >> 24) as usize % 13];
+        let changed = String::from_utf8(bytes).expect("ASCII");
+        let lines: Vec<String> = changed.split('\n').map(str::to_string).collect();
+        tried += 1;
+        if let Ok(answer) = Answer::parse(event.form(), &lines) {
+            assert_eq!(answer.to_string(), changed);
+            taken += 1;
+        }
+    }
+    assert!(
+        taken * 2 < tried,
+        "{taken} of {tried} changed answers are taken"
+    );
 }
 
 #[test]

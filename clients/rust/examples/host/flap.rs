@@ -17,6 +17,8 @@ pub enum Stage {
     /// .. and its target read back, since a late status frame may have stood for a lost write's.
     Check,
     Held,
+    /// Nobody has answered three operations in a row.
+    GivenUp,
 }
 
 const TIMEOUT: u64 = 150;
@@ -35,6 +37,8 @@ pub struct Flap {
     stalled: bool,
     pub angle: Option<Word>,
     pub retries: u32,
+    /// Operations in a row that nobody answered.
+    unanswered: u32,
 }
 
 impl Flap {
@@ -48,6 +52,7 @@ impl Flap {
             stalled: false,
             angle: None,
             retries: 0,
+            unanswered: 0,
         }
     }
 
@@ -75,7 +80,7 @@ impl Flap {
                 id: TARGET,
                 timeout,
             },
-            Stage::Held => return None,
+            Stage::Held | Stage::GivenUp => return None,
         })
     }
 
@@ -112,15 +117,25 @@ impl Flap {
             }
             Said::Refused(Refusal::WindowsGone | Refusal::ModeNotReached { .. }) => {
                 self.due = None;
-                self.retries += 1;
-                self.turn_to_jam();
+                self.unanswered();
                 Ok(())
             }
             Said::Refused(refusal) => Err(format!("flap {}: {refusal}", self.id)),
         }
     }
 
+    /// The operation is tried again, at most twice.
+    fn unanswered(&mut self) {
+        self.retries += 1;
+        self.unanswered += 1;
+        self.turn_to_jam();
+        if self.unanswered == 3 {
+            self.stage = Stage::GivenUp;
+        }
+    }
+
     fn finished(&mut self, outcome: Outcome, now: u64) -> Result<(), String> {
+        self.unanswered = 0;
         self.stage = match (self.stage, outcome) {
             (Stage::Ping, Outcome::Ping(_)) => Stage::Mode,
             (Stage::Mode, Outcome::Nothing) => Stage::Report,

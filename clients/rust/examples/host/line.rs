@@ -3,6 +3,7 @@ use crate::args::Args;
 use crate::bus::{Bus, Delivery, Frame};
 use crate::flap::{Flap, Stage};
 use crate::motor::{Motor, ANGLE};
+use crate::script::Script;
 use combradish_client::{
     Heard, HeardId, Model, Recording, Refusal, Reply, Stamp, StateFlag, Station, Taken, Value, Word,
 };
@@ -18,9 +19,9 @@ const HOST: u16 = 0xFD;
 const WRITE_WAIT: u64 = 150;
 /// A motor reports each 100 ms.
 const REPORTS: u64 = 100_000;
-/// The flaps that jam.
-pub const JAM: [u8; 2] = [2, 6];
-/// How long the line may go on after its time, until all is held.
+/// So far has a flap that swings moved in the end, and one that is to jam before it does.
+const MOVED: f32 = 0.5;
+/// How long the line may go on after its time, until all is as it must be.
 const GRACE: u64 = 20_000_000;
 
 pub struct Line {
@@ -29,6 +30,7 @@ pub struct Line {
     motors: Vec<Motor>,
     flaps: Vec<Flap>,
     began: Instant,
+    script: Script,
 }
 
 impl Line {
@@ -42,6 +44,7 @@ impl Line {
             motors: (1..=8).map(Motor::new).collect(),
             flaps: (1..=8).map(Flap::new).collect(),
             began: Instant::now(),
+            script: args.script,
         };
         for id in 1..=8u16 {
             let (model, time) = (Model::new("rs-00")?, line.millis());
@@ -62,20 +65,20 @@ impl Line {
         self.micros() / 1000
     }
 
-    /// Runs for so many seconds, and on until the jammed flaps are held. Halfway they jam.
+    /// Runs for so many seconds, and on until all is as it must be. The script happens halfway.
     pub fn run(&mut self, seconds: u64) -> Outcome<()> {
         let end = seconds * 1_000_000;
-        let mut jammed = false;
+        let mut happened = false;
         loop {
             let now = self.micros();
-            if !jammed && now >= end / 2 {
-                jammed = true;
-                self.jam(now);
-            }
             while let Some(delivery) = self.bus.due(now) {
                 self.deliver(now, delivery)?;
             }
-            let ending = now >= end && self.all_held();
+            if !happened && now >= end / 2 && self.all_moved(now) {
+                happened = true;
+                self.happen();
+            }
+            let ending = happened && now >= end && self.as_it_must_be();
             for place in 0..self.flaps.len() {
                 self.attend(place, ending)?;
             }
@@ -83,33 +86,41 @@ impl Line {
                 return Ok(());
             }
             if now > end + GRACE {
-                return Err("the jammed flaps aren't held in time".into());
+                return Err("the flaps aren't as they must be in time".into());
             }
             sleep(Duration::from_micros(500));
         }
     }
 
-    fn jam(&mut self, now: u64) {
-        for id in JAM {
-            if let Some(motor) = self.motors.get_mut(usize::from(id) - 1) {
-                motor.advance(now);
-                motor.jam();
-                println!("host: flap {id} jams at {}", motor.angle);
+    fn all_moved(&mut self, now: u64) -> bool {
+        self.motors.iter_mut().for_each(|motor| motor.advance(now));
+        self.motors.iter().all(|motor| motor.travel > MOVED)
+    }
+
+    fn happen(&mut self) {
+        for motor in &mut self.motors {
+            match self.script.end(motor.id) {
+                Stage::Held => motor.jam(),
+                Stage::GivenUp => motor.silence(),
+                _ => continue,
             }
+            println!(
+                "host: {:?}: flap {} at {}",
+                self.script, motor.id, motor.angle
+            );
         }
     }
 
-    fn all_held(&self) -> bool {
-        let jammed = |flap: &&Flap| JAM.contains(&flap.id);
-        let mut flaps = self.flaps.iter().filter(jammed);
-        flaps.all(|flap| flap.stage == Stage::Held)
+    fn as_it_must_be(&self) -> bool {
+        let is = |flap: &Flap| flap.stage == self.script.end(flap.id);
+        self.flaps.iter().all(is)
     }
 
     fn deliver(&mut self, now: u64, delivery: Delivery) -> Outcome<()> {
         match delivery {
             Delivery::ToMotor(frame) => {
-                let place = usize::from(frame.id as u8).wrapping_sub(1);
-                if let Some(motor) = self.motors.get_mut(place) {
+                let node = frame.id as u8;
+                if let Some(motor) = self.motors.iter_mut().find(|motor| motor.id == node) {
                     motor.advance(now);
                     if let Some(answer) = motor.hear(frame) {
                         self.bus.answer(now, answer);
@@ -198,28 +209,25 @@ impl Line {
         }
     }
 
-    /// Ends the session. Each jammed flap must be held at its own angle, and the others have moved.
+    /// Ends the session. Each jammed flap must be held at its own angle, which isn't another's.
     pub fn close(mut self) -> Outcome<()> {
-        let now = self.micros();
-        for (motor, flap) in self.motors.iter_mut().zip(&self.flaps) {
-            motor.advance(now);
+        let mut angles: Vec<f32> = Vec::new();
+        for (motor, flap) in self.motors.iter().zip(&self.flaps) {
             let held = self.station.look(u16::from(flap.id))?.result()?;
-            if JAM.contains(&flap.id) {
+            if flap.stage == Stage::Held {
                 held_there(motor, flap, held.reading(ANGLE))?;
-            } else if flap.stage != Stage::Swing || motor.travel < 0.5 {
-                return Err(format!("flap {} moved by {} only", flap.id, motor.travel).into());
+                if angles.contains(&motor.angle) {
+                    return Err("two flaps jammed at one angle, which shows nothing".into());
+                }
+                angles.push(motor.angle);
             }
             let time = self.began.elapsed().as_millis() as u64;
             self.station.remove(u16::from(flap.id), time)?.result()?;
         }
-        if self.motors[1].angle == self.motors[5].angle {
-            return Err("flaps 2 and 6 jammed at the same angle, which shows nothing".into());
-        }
-        let (bus, tries): (&Bus, u32) =
-            (&self.bus, self.flaps.iter().map(|flap| flap.retries).sum());
+        let again: u32 = self.flaps.iter().map(|flap| flap.retries).sum();
         println!(
-            "host: {} frames sent, {} heard, {} lost, {} out of order, {tries} operations again",
-            bus.sent, bus.heard, bus.lost, bus.reordered
+            "host: {} frames sent, {} heard, {} lost, {} out of order, {again} operations again",
+            self.bus.sent, self.bus.heard, self.bus.lost, self.bus.reordered
         );
         Ok(self.station.finish()?)
     }

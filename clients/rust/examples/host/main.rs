@@ -1,6 +1,7 @@
 //! A host over the client: eight simulated motors on a simulated bus, in real time. Replies come late,
-//! out of order or not at all, by a seed. Flaps 2 and 6 jam at the same moment; the host reads their
-//! angles and holds each at its own while the others go on.
+//! out of order or not at all, by a seed. In the script `jam` flaps 2 and 6 jam at the same moment; the
+//! host reads their angles and holds each at its own while the others go on. In `silent` motor 4
+//! answers no more and is given up, in `calm` nothing happens.
 //!
 //! The session is written as it goes. `host --again` gives it to replay once more and compares the
 //! answers with those that were recorded, byte for byte.
@@ -10,6 +11,7 @@ mod flap;
 mod line;
 mod motor;
 mod random;
+mod script;
 
 use args::{Args, USAGE};
 use std::error::Error;
@@ -31,7 +33,7 @@ fn run(args: &Args) -> Result<String, Box<dyn Error>> {
     line.close()?;
     let (events, frames) = counts(&fs::read(&args.session)?, &fs::read(&args.answers)?);
     Ok(format!(
-        "{events} events, {frames} frames, each flap held at its own angle"
+        "{events} events, {frames} frames, each flap as it must be"
     ))
 }
 

@@ -14,12 +14,13 @@ const P_MAX: f32 = 4.0 * PI;
 const TEMPERATURE: [u8; 2] = [0x00, 0xFA];
 
 pub struct Motor {
-    id: u8,
+    pub id: u8,
     pub angle: f32,
     /// How far the flap has moved in all.
     pub travel: f32,
     enabled: bool,
     jammed: bool,
+    silent: bool,
     reporting: bool,
     /// The host that was heard last.
     host: u8,
@@ -42,6 +43,7 @@ impl Motor {
             travel: 0.0,
             enabled: false,
             jammed: false,
+            silent: false,
             reporting: false,
             host: 0xFD,
             motion: 0.0,
@@ -53,6 +55,11 @@ impl Motor {
     /// The flap moves no more.
     pub fn jam(&mut self) {
         self.jammed = true;
+    }
+
+    /// The motor answers no more and stands still.
+    pub fn silence(&mut self) {
+        self.silent = true;
     }
 
     fn float(&self, id: u16) -> f32 {
@@ -81,7 +88,7 @@ impl Motor {
     pub fn advance(&mut self, now: u64) {
         let seconds = now.saturating_sub(self.at) as f32 / 1e6;
         self.at = now;
-        if self.jammed || !self.enabled {
+        if self.jammed || self.silent || !self.enabled {
             return;
         }
         let reach = self.float(VELOCITY_LIMIT).abs() * seconds;
@@ -92,6 +99,9 @@ impl Motor {
 
     /// Takes a frame; most are answered.
     pub fn hear(&mut self, frame: Frame) -> Option<Frame> {
+        if self.silent {
+            return None;
+        }
         let kind = (frame.id >> 24) & 0x1F;
         let extra = (frame.id >> 8) as u16;
         if kind != 1 {
@@ -122,7 +132,7 @@ impl Motor {
 
     /// What it sends by itself where it was told to.
     pub fn report(&self) -> Option<Frame> {
-        self.reporting.then(|| self.status(24))
+        (self.reporting && !self.silent).then(|| self.status(24))
     }
 
     /// A frame to the host; `high` is the extra field's high byte.
