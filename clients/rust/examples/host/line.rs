@@ -19,7 +19,7 @@ const HOST: u16 = 0xFD;
 const WRITE_WAIT: u64 = 150;
 /// A motor reports each 100 ms.
 const REPORTS: u64 = 100_000;
-/// So far has a flap that swings moved in the end, and one that is to jam before it does.
+/// So far, in radians, every flap has moved before anything happens.
 const MOVED: f32 = 0.5;
 /// How long the line may go on after its time, until all is as it must be.
 const GRACE: u64 = 20_000_000;
@@ -74,7 +74,7 @@ impl Line {
             while let Some(delivery) = self.bus.due(now) {
                 self.deliver(now, delivery)?;
             }
-            if !happened && now >= end / 2 && self.all_moved(now) {
+            if !happened && now >= end / 2 && self.ready(now) {
                 happened = true;
                 self.happen();
             }
@@ -92,9 +92,14 @@ impl Line {
         }
     }
 
-    fn all_moved(&mut self, now: u64) -> bool {
-        self.motors.iter_mut().for_each(|motor| motor.advance(now));
-        self.motors.iter().all(|motor| motor.travel > MOVED)
+    /// Every flap has moved, and those that are to jam are on their way.
+    fn ready(&mut self, now: u64) -> bool {
+        let script = self.script;
+        self.motors.iter_mut().all(|motor| {
+            motor.advance(now);
+            let jams = script.end(motor.id) == Stage::Held;
+            motor.travel > MOVED && (!jams || motor.angle != motor.target())
+        })
     }
 
     fn happen(&mut self) {
@@ -238,9 +243,11 @@ fn held_there(motor: &Motor, flap: &Flap, reading: Option<Value>) -> Outcome<()>
     let own = Word::from(motor.angle);
     let target = Word::from(motor.target());
     if flap.angle != Some(own) || reading != Some(Value::F32(own)) || target != own {
+        let read = flap.angle.map_or(String::new(), |word| word.to_string());
+        let held = reading.map_or(String::new(), |value| value.to_string());
         return Err(format!(
-            "flap {} is at {own}; read {:?}, reading {reading:?}, held at {target}",
-            flap.id, flap.angle
+            "flap {} is at {own}, but read as {read}, reading {held}, and held at {target}",
+            flap.id
         )
         .into());
     }
