@@ -17,7 +17,8 @@ from .values import ENDING, Frame, Kind, Mode, Reason, Refusal, Value, Word, val
 
 __all__ = [
     "Answer", "AnyFrame", "Command", "Died", "ENDING", "Error", "Event", "Fault", "Feedback", "Finished", "Frame", "Fresh",
-    "Heard", "Held", "Kind", "Look", "Mode", "Ok", "PARAMETERS", "PingReply", "ProtocolFlag", "Reason", "Refusal", "Refused", "Register",
-    "Remove", "Result", "Running", "Sent", "Start", "Station", "Step", "Unexpected", "Value", "Waiting", "Word",
+    "Heard", "Held", "Kind", "Look", "Mode", "Ok", "PARAMETERS", "PingReply", "ProtocolFlag", "Reason", "Refusal",
+    "Refused", "Register", "Remove", "Result", "Running", "Sent", "Start", "Station", "Step", "Unexpected", "Value",
+    "Waiting", "Word",
     "kind_of", "parse_event", "program_of", "read_answer", "value", "word",
 ]  # fmt: skip

@@ -27,7 +27,9 @@ class Died(Exception):
     """The child is gone. Keeps its status, the last event said to it, what it said to that, and its own complaint."""
 
     def __init__(self, status: int | None, last_event: str, last_answers: list[str], complaint: str = "") -> None:
-        how = "ended by itself" if status is None else f"killed by signal {-status}" if status < 0 else f"ended with status {status}"
+        how = "it closed its pipe and was ended" if status is None else f"status {status}"
+        if status is not None and status < 0:
+            how = f"killed by signal {-status}"
         last = f"the last event was {last_event!r}" if last_event else "no event had been sent"
         said = f"its answer so far was {last_answers!r}" if last_answers else "it gave no answer to it"
         text = f"replay is gone ({how}); {last}, {said}. The motors keep what they were last sent."

@@ -6,6 +6,8 @@
 from __future__ import annotations
 
 import math
+import random
+import signal
 import sys
 import tempfile
 import unittest
@@ -63,6 +65,24 @@ class Sample(unittest.TestCase):
             if event := parse_event(line):
                 self.assertEqual(parse_event(event.line), event)
 
+    def test_lines_that_are_events_to_replay_are_events_here(self) -> None:
+        """The sample's lines with a character changed, put in or taken out: parsed where replay takes them, else refused."""
+        dice = random.Random(2026)
+        lines = [line for line in (ROOT / "crates/replay/stdin").read_text("ascii").splitlines() if line[:1] not in ("", "#")]
+        with Station(REPLAY) as station:
+            for _ in range(6000):
+                line = dice.choice(lines)
+                at = dice.randrange(len(line) + 1)
+                line = line[:at] + dice.choice(["", *"0 19xXaFg#.(-)_R"]) + line[at + dice.randrange(2) :]
+                answer = station.say(line)
+                try:
+                    event = parse_event(line)
+                except ValueError:
+                    event = None
+                self.assertEqual(event is None, answer is None or isinstance(answer, Error), line)
+                if event:
+                    self.assertEqual(parse_event(event.line), event)
+
 
 class Incident(unittest.TestCase):
     def test_each_flap_is_held_at_its_own_angle(self) -> None:
@@ -110,7 +130,8 @@ class Incident(unittest.TestCase):
 
 class Death(unittest.TestCase):
     def test_what_was_last_said_is_kept(self) -> None:
-        code = "import sys; sys.stdin.readline(); print('ok', flush=True); sys.stdin.readline(); sys.stdout.write('wait'); sys.exit('no memory')"
+        code = "import sys; sys.stdin.readline(); print('ok', flush=True); sys.stdin.readline(); "
+        code += "sys.stdout.write('wait'); sys.exit('no memory')"
         with tempfile.TemporaryDirectory() as folder:
             recording, answers = Path(folder, "session"), Path(folder, "answers")
             with self.assertRaises(Died) as caught, Station(child(code), recording, answers) as station:
@@ -132,6 +153,21 @@ class Death(unittest.TestCase):
         station.close()
         with self.assertRaises(Died), Station(child("import sys; sys.exit(4)")):
             pass
+
+    def test_an_exchange_that_is_broken_off(self) -> None:
+        """An answer that comes too late isn't taken for the next event's."""
+
+        def ring(*_: object) -> None:
+            raise KeyboardInterrupt
+
+        before = signal.signal(signal.SIGALRM, ring)
+        self.addCleanup(signal.signal, signal.SIGALRM, before)
+        with Station(child("import sys, time; sys.stdin.readline(); time.sleep(0.3); print('ok'); sys.stdin.read()")) as station:
+            signal.setitimer(signal.ITIMER_REAL, 0.1)
+            with self.assertRaises(KeyboardInterrupt):
+                station.fresh()
+            with self.assertRaises(Unexpected):
+                station.fresh()
 
     def test_no_recording_is_overwritten(self) -> None:
         with tempfile.NamedTemporaryFile() as file, self.assertRaises(FileExistsError):
