@@ -17,7 +17,7 @@ sys.path.insert(0, str(Path(__file__).resolve().parents[1]))
 
 from combradish import (  # noqa: E402
     Command, Died, Error, Finished, Frame, Held, Kind, Mode, Ok, Reason, Refusal, Refused, Sent, Station, Unexpected,
-    Value, Waiting, Word, parse_event, program_of, value, word,
+    Value, Waiting, Word, parse_event, program_of, read_answer, value, word,
 )  # fmt: skip
 from combradish.commands import SHAPES  # noqa: E402
 
@@ -180,7 +180,7 @@ class Strict(unittest.TestCase):
     def test_answers_of_another_form(self) -> None:
         frame = "(0.100000) can0 0300FD01#0000000000000000\n"
         bad = ["sent due 340\n", "ok\n", "waiting due\n", "waiting due 0340\n", "waiting due 340 \n", "finished\n",
-               "finished mode PP\n", "finished value F32 3F80000\n", "refused\n", "refused 0\n", "refused 24\n",
+               "finished mode PP\n", "finished value F32 3F80000\n", "finished f32 3f800000\n", "refused\n", "refused 0\n", "refused 24\n",
                "refused 14\n", "refused 18 128\n", "refused 1 2\n", frame + "refused 1\n", frame + "waiting due 1\n",
                frame + frame + "sent due 1\n", frame.lower() + "sent due 1\n", "motor 01 FD rs-00 0\n", "\n", "\xff\n",
                "error word 2 is bad\n"]  # fmt: skip
@@ -188,6 +188,15 @@ class Strict(unittest.TestCase):
             with self.subTest(text), self.assertRaises(Unexpected) as caught, Station(saying(text)) as station:
                 station.step(1, 100)
             self.assertEqual(caught.exception.event, "step 1 100")
+
+    def test_answers_to_another_event(self) -> None:
+        pairs = [("step 1 1", "ok"), ("look 1", "ok"), ("start 1 1 enable", "ok"), ("fly", "ok"), ("fly", "refused 6"),
+                 ("fresh", "refused 6"), ("look 1", "waiting due 1"), ("register 1 1 a 1 1", "finished none"),
+                 ("(0.000000) can0 123#", "sent due 1"), ("frame", "(0.000000) can0 00000001#0000000000000000")]  # fmt: skip
+        for event, line in pairs:
+            with self.subTest(event=event, line=line), self.assertRaises(Unexpected):
+                read_answer(event, iter([line, "ok"]).__next__)
+        self.assertIsNone(read_answer("# a comment", iter([]).__next__))
 
     def test_looks_of_another_form(self) -> None:
         with Station(REPLAY) as station:
