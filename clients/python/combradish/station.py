@@ -1,0 +1,220 @@
+"""A station behind two pipes: replay as a child, one event at a time."""
+
+from __future__ import annotations
+
+import os
+import subprocess
+import tempfile
+import threading
+from collections.abc import Sequence
+from contextlib import ExitStack
+from os import PathLike
+from pathlib import Path
+from types import TracebackType
+from typing import BinaryIO, TypeVar, cast
+
+from .answers import Answer, Error, Finished, Ok, Refused, Sent, Unexpected, Waiting, read_answer
+from .commands import Command
+from .events import AnyFrame, Event, Fresh, Heard, Look, Register, Remove, Start, Step
+from .held import Held
+from .values import Frame
+
+LONGEST = 4096
+A = TypeVar("A")
+
+
+class Died(Exception):
+    """The child is gone. Keeps its status, the last event said to it, what it said to that, and its own complaint."""
+
+    def __init__(self, status: int | None, last_event: str, last_answers: list[str], complaint: str = "") -> None:
+        how = "it closed its pipe and was ended" if status is None else f"status {status}"
+        if status is not None and status < 0:
+            how = f"killed by signal {-status}"
+        last = f"the last event was {last_event!r}" if last_event else "no event had been sent"
+        said = f"its answer so far was {last_answers!r}" if last_answers else "it gave no answer to it"
+        text = f"replay is gone ({how}); {last}, {said}. The motors keep what they were last sent."
+        super().__init__(text + (f" It said: {complaint.strip()}" if complaint.strip() else ""))
+        self.status = status
+        self.last_event = last_event
+        self.last_answers = last_answers
+        self.complaint = complaint
+
+
+class Station:
+    """Runs replay and speaks with it. `recording` gets each event before it is sent, `answers` each line that comes back.
+
+    Both are new files: one that is there already is an error, so that no recording is lost. After Died or Unexpected, or
+    where an exchange was broken off, the station is of no more use and every call raises that again.
+    """
+
+    def __init__(
+        self,
+        program: str | PathLike[str] | Sequence[str],
+        recording: str | PathLike[str] | None = None,
+        answers: str | PathLike[str] | None = None,
+    ) -> None:
+        command = [str(program)] if isinstance(program, (str, PathLike)) else list(program)
+        with ExitStack() as opened:
+            paths = (recording, answers)
+            self._files = [opened.enter_context(open(path, "xb", buffering=0)) if path else None for path in paths]
+            self._complaints = opened.enter_context(tempfile.TemporaryFile())
+            pipe = subprocess.PIPE
+            self._child = subprocess.Popen(command, stdin=pipe, stdout=pipe, stderr=self._complaints)
+            opened.pop_all()
+        self._in = cast(BinaryIO, self._child.stdin)
+        self._out = cast(BinaryIO, self._child.stdout)
+        self._lock = threading.Lock()
+        self._broken: Exception | None = None
+        self.last_event = ""
+        self.last_answers: list[str] = []
+
+    # ---- the events
+
+    def fresh(self) -> Ok:
+        """Begin again with no motor."""
+        return self._typed(Fresh(), Ok)
+
+    def register(self, id: int, host: int, model: str, wait: int, time: int) -> Ok | Refused:
+        return self._typed(Register(id, host, model, wait, time), Ok, Refused)
+
+    def start(self, id: int, time: int, command: Command) -> Sent | Waiting | Finished | Refused:
+        return self._typed(Start(id, time, command), Sent, Waiting, Finished, Refused)
+
+    def step(self, id: int, time: int) -> Sent | Waiting | Finished | Refused:
+        """The operation goes on. Step after each frame of the motor and at each due time."""
+        return self._typed(Step(id, time), Sent, Waiting, Finished, Refused)
+
+    def frame(self, time: int, id: int, data: bytes, extended: bool = True, dlc: int = 8, rx: bool = True) -> Ok | Refused:
+        """Any frame at all."""
+        return self._typed(AnyFrame(time, id, data, extended, dlc, rx), Ok, Refused)
+
+    def heard(self, frame: Frame) -> Ok | Refused:
+        """A frame heard on the bus."""
+        return self._typed(Heard(frame), Ok, Refused)
+
+    def look(self, id: int) -> Held | Refused:
+        """All that is held for a motor."""
+        return self._typed(Look(id), Held, Refused)
+
+    def remove(self, id: int, time: int) -> Ok | Refused:
+        return self._typed(Remove(id, time), Ok, Refused)
+
+    def note(self, text: str) -> None:
+        """A comment in the recording."""
+        self.say(f"# {text}")
+
+    def send(self, event: Event) -> Answer:
+        """An event as a value."""
+        return self._typed(event, Ok, Sent, Waiting, Finished, Refused, Held)
+
+    def say(self, line: str) -> Answer | None:
+        """Any one line as it stands, which may be no event at all; None where it is blank or a comment.
+
+        The way for recorded lines. The methods above make lines that are always events.
+        """
+        if not isinstance(line, str) or not line.isascii() or any(c in line for c in "\r\n\0"):
+            raise ValueError(f"one line of ASCII characters is asked for, not {line!r}")
+        if len(line) > LONGEST:
+            raise ValueError(f"a line has at most {LONGEST} bytes, not {len(line)}")
+        with self._lock:
+            return self._exchange(line)
+
+    def _typed(self, event: Event, *kinds: type[A]) -> A:
+        line = event.line
+        answer = self.say(line)
+        if isinstance(answer, kinds):
+            return answer
+        said = answer.lines()[0] if answer else ""
+        self._broken = Unexpected(line, said, "the event's line was refused as text" if isinstance(answer, Error) else "")
+        raise self._broken
+
+    # ---- the pipes
+
+    def _exchange(self, line: str) -> Answer | None:
+        if self._broken:
+            raise self._broken
+        if self._in.closed:
+            raise ValueError("the station is closed")
+        self.last_event, self.last_answers = line, []
+        self._broken = Unexpected(line, "", "the exchange was broken off before the answer was read")
+        try:
+            self._write(line)
+            answer = read_answer(line, self._line)
+        except (Died, Unexpected) as end:
+            self._broken = end
+            raise
+        self._broken = None
+        return answer
+
+    def _write(self, line: str) -> None:
+        data = line.encode("ascii") + b"\n"
+        if self._files[0]:
+            self._files[0].write(data)
+        try:
+            self._in.write(data)
+            self._in.flush()
+        except OSError:
+            raise self._died() from None
+
+    def _line(self) -> str:
+        data = self._out.readline()
+        if self._files[1]:
+            self._files[1].write(data)
+        text = data.decode("ascii", "backslashreplace")
+        if text:
+            self.last_answers.append(text.removesuffix("\n"))
+        if not text.endswith("\n"):
+            raise self._died()
+        return text[:-1]
+
+    def _died(self) -> Died:
+        try:
+            status: int | None = self._child.wait(5)
+        except subprocess.TimeoutExpired:
+            self._child.kill()
+            self._child.wait()
+            status = None
+        self._complaints.seek(0)
+        complaint = self._complaints.read()[-2000:].decode("utf-8", "replace")
+        return Died(status, self.last_event, list(self.last_answers), complaint)
+
+    # ---- the end
+
+    def close(self) -> None:
+        """Ends the child and closes the files. Raises Died where the child didn't end well."""
+        if self._out.closed:
+            return
+        ended = None
+        try:
+            self._in.close()
+        except OSError:
+            pass
+        if not self._broken:
+            rest = self._out.read()
+            died = self._died()
+            ended = died if died.status or rest else None
+        else:
+            self._child.kill()
+            self._child.wait()
+        self._out.close()
+        self._complaints.close()
+        for file in self._files:
+            if file:
+                file.close()
+        if ended:
+            raise ended
+
+    def __enter__(self) -> Station:
+        return self
+
+    def __exit__(self, kind: type[BaseException] | None, error: BaseException | None, trace: TracebackType | None) -> None:
+        try:
+            self.close()
+        except Died:
+            if error is None:
+                raise
+
+
+def program_of(repository: Path) -> str:
+    """The replay program: what COMBRADISH_REPLAY names, else the repository's own build."""
+    return os.environ.get("COMBRADISH_REPLAY") or str(repository / "target" / "bin" / "replay")

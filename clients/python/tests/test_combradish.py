@@ -1,0 +1,272 @@
+"""The client against replay, by the recorded sample and by hand.
+
+    python3 -m unittest discover -s clients/python/tests
+"""
+
+from __future__ import annotations
+
+import math
+import random
+import signal
+import sys
+import tempfile
+import unittest
+from pathlib import Path
+
+sys.path.insert(0, str(Path(__file__).resolve().parents[1]))
+
+from combradish import (  # noqa: E402
+    Command, Died, Error, Finished, Frame, Held, Kind, Mode, Ok, Reason, Refusal, Refused, Sent, Station, Unexpected,
+    Value, Waiting, Word, parse_event, program_of, read_answer, value, word,
+)  # fmt: skip
+from combradish.commands import SHAPES  # noqa: E402
+
+ROOT = Path(__file__).resolve().parents[3]
+REPLAY = program_of(ROOT)
+
+
+def child(code: str) -> list[str]:
+    """A program that stands in for replay."""
+    return [sys.executable, "-c", code]
+
+
+def saying(text: str) -> list[str]:
+    """A child that gives the same text to its first event and then waits for the end."""
+    return child(f"import sys; sys.stdin.readline(); sys.stdout.write({text!r}); sys.stdout.flush(); sys.stdin.read()")
+
+
+class Sample(unittest.TestCase):
+    def test_sample_byte_for_byte(self) -> None:
+        lines = (ROOT / "crates/replay/stdin").read_text("ascii").splitlines()
+        answers: list[str] = []
+        typed = raw = 0
+        with tempfile.TemporaryDirectory() as folder:
+            recording, kept = Path(folder, "session"), Path(folder, "answers")
+            with Station(REPLAY, recording, kept) as station:
+                for line in lines:
+                    event = parse_event(line)
+                    if event is not None and event.line == line:
+                        answer = station.send(event)
+                        typed += 1
+                    else:
+                        answer = station.say(line)
+                        raw += event is not None
+                    answers += answer.lines() if answer else []
+            self.assertEqual(recording.read_text("ascii").splitlines(), lines)
+            expected = (ROOT / "crates/replay/stdout").read_bytes()
+            self.assertEqual(kept.read_bytes(), expected)
+        self.assertEqual("".join(f"{line}\n" for line in answers).encode(), expected)
+        self.assertGreater(typed, 3900)
+        self.assertLess(raw, 50)
+
+    def test_events_mean_the_same_when_printed_again(self) -> None:
+        """A line in another form and its printed event: the same event."""
+        for line in (ROOT / "crates/replay/stdin").read_text("ascii").splitlines():
+            if event := parse_event(line):
+                self.assertEqual(parse_event(event.line), event)
+
+    def test_lines_that_are_events_to_replay_are_events_here(self) -> None:
+        """The sample's lines with a character changed, put in or taken out: parsed where replay takes them, else refused."""
+        dice = random.Random(2026)
+        lines = [line for line in (ROOT / "crates/replay/stdin").read_text("ascii").splitlines() if line[:1] not in ("", "#")]
+        with Station(REPLAY) as station:
+            for _ in range(6000):
+                line = dice.choice(lines)
+                at = dice.randrange(len(line) + 1)
+                line = line[:at] + dice.choice(["", *"0 19xXaFg#.(-)_R"]) + line[at + dice.randrange(2) :]
+                answer = station.say(line)
+                try:
+                    event = parse_event(line)
+                except ValueError:
+                    event = None
+                self.assertEqual(event is None, answer is None or isinstance(answer, Error), line)
+                if event:
+                    self.assertEqual(parse_event(event.line), event)
+
+
+class Incident(unittest.TestCase):
+    def test_each_flap_is_held_at_its_own_angle(self) -> None:
+        """The first half of sessions/incident.session, by the methods."""
+        with tempfile.TemporaryDirectory() as folder:
+            recording = Path(folder, "session")
+            with Station(REPLAY, recording) as station:
+                station.note("Flaps 2 and 6 jam.")
+                for flap in (2, 6):
+                    self.assertEqual(station.register(flap, 0xFD, "rs-00", 0, 1000), Ok())
+                sent = station.start(2, 1100, Command.controlled_stop(200))
+                self.assertEqual(sent, Sent(Frame.at(1100, 0x1100FD02, bytes.fromhex("0570000000000000")), 1300))
+                station.start(6, 1101, Command.controlled_stop(200))
+                for flap, time in ((6, 1120), (2, 1121)):
+                    station.heard(Frame.at(time, 0x110000FD | flap << 8, bytes.fromhex("0570000005000000")))
+                station.step(2, 1122), station.step(6, 1123)
+                for flap, time, angle in ((6, 1140, "000000BF"), (2, 1141, "0000403F")):
+                    station.heard(Frame.at(time, 0x110000FD | flap << 8, bytes.fromhex("19700000" + angle)))
+                for flap, time, angle in ((2, 1142, 0.75), (6, 1143, -0.5)):
+                    finished = station.step(flap, time)
+                    assert isinstance(finished, Finished) and finished.frame
+                    self.assertEqual(finished.result, Mode.CSP)
+                    self.assertEqual(value(int.from_bytes(finished.frame.data[4:], "little")), angle)
+                    held = station.look(flap)
+                    assert isinstance(held, Held)
+                    self.assertEqual(held.readings, {0x7005: Value.i8(5), 0x7019: Value.f32(angle)})
+            lines = (ROOT / "sessions/incident.session").read_text("ascii").splitlines()
+            said = [line for line in recording.read_text("ascii").splitlines() if not line.startswith(("#", "look"))]
+            self.assertEqual(said, [line for line in lines if not line.startswith("#")][: len(said)])
+
+    def test_refusals(self) -> None:
+        with Station(REPLAY) as station:
+            self.assertEqual(station.look(9), Refused(Refusal(Reason.ID_NOT_REGISTERED)))
+            station.register(1, 0xFD, "rs-00", 0, 100)
+            unread = station.heard(Frame.at(100, 0x118001FD, bytes.fromhex("19700000")))
+            self.assertEqual(unread, Refused(Refusal(Reason.READ_STATUS_NOT_ZERO, parameter=0x7019, status=0x80)))
+            self.assertEqual(station.step(1, 100), Refused(Refusal(Reason.NOTHING_RUNNING)))
+            station.start(1, 100, Command.enable())
+            self.assertEqual(station.step(1, 200), Waiting(340))
+            self.assertEqual(station.remove(1, 200), Refused(Refusal(Reason.OPERATION_RUNNING)))
+            self.assertIsInstance(station.say("register"), Error)
+            self.assertIsNone(station.say(""))
+            self.assertEqual(station.fresh(), Ok())
+
+
+class Death(unittest.TestCase):
+    def test_what_was_last_said_is_kept(self) -> None:
+        code = "import sys; sys.stdin.readline(); print('ok', flush=True); sys.stdin.readline(); "
+        code += "sys.stdout.write('wait'); sys.exit('no memory')"
+        with tempfile.TemporaryDirectory() as folder:
+            recording, answers = Path(folder, "session"), Path(folder, "answers")
+            with self.assertRaises(Died) as caught, Station(child(code), recording, answers) as station:
+                station.register(2, 0xFD, "rs-00", 0, 1000)
+                station.step(2, 1001)
+            died = caught.exception
+            self.assertEqual((died.status, died.last_event, died.last_answers), (1, "step 2 1001", ["wait"]))
+            for part in ("status 1", "'step 2 1001'", "no memory"):
+                self.assertIn(part, str(died))
+            self.assertEqual(recording.read_text(), "register 2 0xFD rs-00 0 1000\nstep 2 1001\n")
+            self.assertEqual(answers.read_text(), "ok\nwait")
+
+    def test_killed_and_called_again(self) -> None:
+        station = Station(child("import os; os.kill(os.getpid(), 9)"))
+        for _ in range(2):
+            with self.assertRaises(Died) as caught:
+                station.fresh()
+            self.assertEqual((caught.exception.status, caught.exception.last_event), (-9, "fresh"))
+        station.close()
+        with self.assertRaises(Died), Station(child("import sys; sys.exit(4)")):
+            pass
+
+    def test_an_exchange_that_is_broken_off(self) -> None:
+        """An answer that comes too late isn't taken for the next event's."""
+
+        def ring(*_: object) -> None:
+            raise KeyboardInterrupt
+
+        before = signal.signal(signal.SIGALRM, ring)
+        self.addCleanup(signal.signal, signal.SIGALRM, before)
+        with Station(child("import sys, time; sys.stdin.readline(); time.sleep(0.3); print('ok'); sys.stdin.read()")) as station:
+            signal.setitimer(signal.ITIMER_REAL, 0.1)
+            with self.assertRaises(KeyboardInterrupt):
+                station.fresh()
+            with self.assertRaises(Unexpected):
+                station.fresh()
+
+    def test_no_recording_is_overwritten(self) -> None:
+        with tempfile.NamedTemporaryFile() as file, self.assertRaises(FileExistsError):
+            Station(REPLAY, file.name)
+        with self.assertRaises(FileNotFoundError):
+            Station("no/such/program")
+
+
+class Strict(unittest.TestCase):
+    def test_answers_of_another_form(self) -> None:
+        frame = "(0.100000) can0 0300FD01#0000000000000000\n"
+        bad = ["sent due 340\n", "ok\n", "waiting due\n", "waiting due 0340\n", "waiting due 340 \n", "finished\n",
+               "finished mode PP\n", "finished value F32 3F80000\n", "finished f32 3f800000\n", "refused\n", "refused 0\n", "refused 24\n",
+               "refused 14\n", "refused 18 128\n", "refused 1 2\n", frame + "refused 1\n", frame + "waiting due 1\n",
+               frame + frame + "sent due 1\n", frame.lower() + "sent due 1\n", "motor 01 FD rs-00 0\n", "\n", "\xff\n",
+               "error word 2 is bad\n"]  # fmt: skip
+        for text in bad:
+            with self.subTest(text), self.assertRaises(Unexpected) as caught, Station(saying(text)) as station:
+                station.step(1, 100)
+            self.assertEqual(caught.exception.event, "step 1 100")
+
+    def test_answers_to_another_event(self) -> None:
+        pairs = [("step 1 1", "ok"), ("look 1", "ok"), ("start 1 1 enable", "ok"), ("fly", "ok"), ("fly", "refused 6"),
+                 ("fresh", "refused 6"), ("look 1", "waiting due 1"), ("register 1 1 a 1 1", "finished none"),
+                 ("(0.000000) can0 123#", "sent due 1"), ("frame", "(0.000000) can0 00000001#0000000000000000")]  # fmt: skip
+        for event, line in pairs:
+            with self.subTest(event=event, line=line), self.assertRaises(Unexpected):
+                read_answer(event, iter([line, "ok"]).__next__)
+        self.assertIsNone(read_answer("# a comment", iter([]).__next__))
+
+    def test_looks_of_another_form(self) -> None:
+        with Station(REPLAY) as station:
+            station.register(1, 0xFD, "rs-00", 0, 100)
+            station.heard(Frame.at(100, 0x028001FD, bytes(8)))
+            held = station.look(1)
+            assert isinstance(held, Held)
+        lines = held.lines()
+        bad = [lines[:i] + lines[i + 1 :] + ["end"] for i in range(len(lines) - 1)]
+        bad += [lines[:-1] + ["reading 7019 F32 00000000"] * 2 + ["end"]]
+        for some in bad:
+            with self.subTest(some), self.assertRaises(Unexpected), Station(saying("\n".join(some) + "\n")) as station:
+                station.look(1)
+
+
+class Misuse(unittest.TestCase):
+    def test_arguments(self) -> None:
+        frame = Frame.at(0, 1, b"")
+        with tempfile.TemporaryDirectory() as folder:
+            recording = Path(folder, "session")
+            with Station(REPLAY, recording) as s:
+                calls = [
+                    lambda: s.register(1, 0xFD, "rs 00", 0, 0), lambda: s.register(1, 0xFD, "", 0, 0),
+                    lambda: s.register(1, 0xFD, "rs-00\n", 0, 0), lambda: s.register(1, 0xFD, "r\u00e9", 0, 0),
+                    lambda: s.register(1, 0xFD, "r" * 5000, 0, 0), lambda: s.register(-1, 0xFD, "rs-00", 0, 0),
+                    lambda: s.register(1, 2**64, "rs-00", 0, 0), lambda: s.register("1", 0xFD, "rs-00", 0, 0),
+                    lambda: s.step(1, 1.5), lambda: s.step(True, 1), lambda: s.look(None), lambda: s.remove(1, -1),
+                    lambda: s.start(1, 0, "enable"), lambda: s.heard("(0.1) can0"), lambda: s.frame(0, 2**32, bytes(8)),
+                    lambda: s.frame(0, 1, bytes(7)), lambda: s.frame(0, 1, bytes(8), 1), lambda: s.frame(0, 1, bytes(8), True, 256),
+                    lambda: s.note("two\nlines"), lambda: s.say("fresh\nfresh"), lambda: s.say("fresh\r"), lambda: s.say("\u00e9"),
+                ]  # fmt: skip
+                for i, call in enumerate(calls):
+                    with self.subTest(i), self.assertRaises(ValueError):
+                        call()
+                self.assertIsInstance(s.heard(frame), Refused)
+            self.assertEqual(recording.read_text(), "(0.000000) can0 00000001#\n")
+
+    def test_commands(self) -> None:
+        calls = [
+            lambda: Command.ping(-1), lambda: Command.ping(2**64), lambda: Command.ping(1.0), lambda: Command.set_mode("mit"),
+            lambda: Command.set_device_id(256), lambda: Command.request_parameter(0x10000),
+            lambda: Command.set_active_report(1), lambda: Command.set_velocity_target(2), lambda: Command.set_velocity_target(1e39),
+            lambda: Command.write_parameter(0x7005, 1), lambda: Command("fly"), lambda: Command("enable", (1,)),
+            lambda: Value(Kind.U8, 256), lambda: Value.i8(128), lambda: Value.i8(-129), lambda: Value.f32(1), lambda: Value("u8", 1),
+            lambda: Word(2**32), lambda: Word(-1), lambda: word(1), lambda: Frame(0, 2**29, b""), lambda: Frame(0, 0x1000, b"", False),
+            lambda: Frame(0, 0, bytes(9)), lambda: Frame(0, 0, b"", True, "can 0"), lambda: Frame.at(2**64, 0, b""),
+        ]  # fmt: skip
+        for i, call in enumerate(calls):
+            with self.subTest(i), self.assertRaises(ValueError):
+                call()
+
+    def test_every_command_is_an_event(self) -> None:
+        """Each constructor's line is read by replay, with its arguments at both ends of their ranges."""
+        most = {"T": 2**64 - 1, "H": 2**64 - 1, "M": Mode.CSP, "P": 2**64 - 1, "N": 255, "F": True, "W": Word(2**32 - 1),
+                "I": 0xFFFF, "V": Value.u16(0xFFFF)}  # fmt: skip
+        least = {**dict.fromkeys("THPNI", 0), "M": Mode.MIT, "F": False, "W": -0.0, "V": Value.i8(-1)}
+        self.assertEqual(len(SHAPES), 25)
+        with Station(REPLAY) as station:
+            for name, shape in SHAPES.items():
+                for table in (most, least):
+                    command = getattr(Command, name)(*(table[letter] for letter in shape))
+                    self.assertEqual(station.start(1, 0, command), Refused(Refusal(Reason.ID_NOT_REGISTERED)))
+                    self.assertEqual(Command.parse(command.text.split(" ")), command)
+
+    def test_floats(self) -> None:
+        self.assertEqual((word(1.5), value(0x3FC00000), word(-0.0)), (0x3FC00000, 1.5, 0x80000000))
+        self.assertTrue(math.isnan(value(word(math.nan))))
+        self.assertEqual((Value.i8(-1).bits, Value.i8(-1).number, Value.f32(0.1).number), (0xFF, -1, value(0x3DCCCCCD)))
+        self.assertEqual(Command.set_velocity_target(Word(0x7FA00000)).text, "set_velocity_target 0x7FA00000")
+
+
+if __name__ == "__main__":
+    unittest.main()
