@@ -24,96 +24,44 @@ spell-at t = and 1 spell-kinds.ps (is 1 spell-kinds.ps μ-spell t) spell.Pre
 abbrev spell-below : ℕ → In 1 spell-kinds.ps
 spell-below t = and 1 spell-kinds.ps (falls 1 spell-kinds.ps _<_ μ-spell t) spell.Pre
 
-spell-returns : (t : ℕ) → spell-lts.Need-returns (
+-- what the calls promise, its own on a smaller measure among them
+abbrev spell-claims : ℕ → spell-lts.Claims
+spell-claims t = (
   spell-below t,
   spell.Post,
   glyph-reads.Asked,
   glyph-reads.Learnt,
   put-byte-reads.Asked,
   put-byte-reads.Learnt,
-) (spell-at t) spell.Post
+)
+
+spell-returns : (t : ℕ) → spell-lts.Need-returns (spell-claims t) (spell-at t) spell.Post
 spell-returns t c = rw (digits-none _ _ _ (c .if1 .taken)) (put-nil _ _)
 
-spell-div-spell : (t : ℕ) → spell-lts.Need-div-spell (
-  spell-below t,
-  spell.Post,
-  glyph-reads.Asked,
-  glyph-reads.Learnt,
-  put-byte-reads.Asked,
-  put-byte-reads.Learnt,
-) (spell-at t) spell.Post
+spell-div-spell : (t : ℕ) → spell-lts.Need-div-spell (spell-claims t) (spell-at t) spell.Post
 spell-div-spell t c = search needs
 
-spell-sub-spell : (t : ℕ) → spell-lts.Need-sub-spell (
-  spell-below t,
-  spell.Post,
-  glyph-reads.Asked,
-  glyph-reads.Learnt,
-  put-byte-reads.Asked,
-  put-byte-reads.Learnt,
-) (spell-at t) spell.Post
+spell-sub-spell : (t : ℕ) → spell-lts.Need-sub-spell (spell-claims t) (spell-at t) spell.Post
 spell-sub-spell t c = search needs
 
-spell-spell-requires : (t : ℕ) → spell-lts.Need-spell-requires (
-  spell-below t,
-  spell.Post,
-  glyph-reads.Asked,
-  glyph-reads.Learnt,
-  put-byte-reads.Asked,
-  put-byte-reads.Learnt,
-) (spell-at t) spell.Post
+spell-spell-requires : (t : ℕ) → spell-lts.Need-spell-requires (spell-claims t) (spell-at t) spell.Post
 spell-spell-requires t c κs = (omega (arith, c .before .before .before .pre .0), c .before .before .before .pre .1)
 
-spell-rem-glyph : (t : ℕ) → spell-lts.Need-rem-glyph (
-  spell-below t,
-  spell.Post,
-  glyph-reads.Asked,
-  glyph-reads.Learnt,
-  put-byte-reads.Asked,
-  put-byte-reads.Learnt,
-) (spell-at t) spell.Post
+spell-rem-glyph : (t : ℕ) → spell-lts.Need-rem-glyph (spell-claims t) (spell-at t) spell.Post
 spell-rem-glyph t c = search needs
 
-spell-glyph-requires : (t : ℕ) → spell-lts.Need-glyph-requires (
-  spell-below t,
-  spell.Post,
-  glyph-reads.Asked,
-  glyph-reads.Learnt,
-  put-byte-reads.Asked,
-  put-byte-reads.Learnt,
-) (spell-at t) spell.Post
+spell-glyph-requires : (t : ℕ) → spell-lts.Need-glyph-requires (spell-claims t) (spell-at t) spell.Post
 spell-glyph-requires t c κs =
     let p1 = c .before .before .before .before .before .before .before in
     omega (arith, p1 .pre .1, mod-lt (p1 .args .n) {m = p1 .args .base} (omega (arith, p1 .pre .1)))
 
-spell-put-byte-requires : (t : ℕ) → spell-lts.Need-put-byte-requires (
-  spell-below t,
-  spell.Post,
-  glyph-reads.Asked,
-  glyph-reads.Learnt,
-  put-byte-reads.Asked,
-  put-byte-reads.Learnt,
-) (spell-at t) spell.Post
+spell-put-byte-requires : (t : ℕ) → spell-lts.Need-put-byte-requires (spell-claims t) (spell-at t) spell.Post
 spell-put-byte-requires t c κs = search needs
 
-spell-same-length : (t : ℕ) → spell-lts.Need-same-length (
-  spell-below t,
-  spell.Post,
-  glyph-reads.Asked,
-  glyph-reads.Learnt,
-  put-byte-reads.Asked,
-  put-byte-reads.Learnt,
-) (spell-at t) spell.Post
+spell-same-length : (t : ℕ) → spell-lts.Need-same-length (spell-claims t) (spell-at t) spell.Post
 spell-same-length t c = c .before .before .put-byte .ensures .same ∙ c .before .before .before .before .before .before .before .spell .ensures .same
 
-spell-returns-2 : (t : ℕ) → spell-lts.Need-returns-2 (
-  spell-below t,
-  spell.Post,
-  glyph-reads.Asked,
-  glyph-reads.Learnt,
-  put-byte-reads.Asked,
-  put-byte-reads.Learnt,
-) (spell-at t) spell.Post
+spell-returns-2 : (t : ℕ) → spell-lts.Need-returns-2 (spell-claims t) (spell-at t) spell.Post
 spell-returns-2 t c =
     let p1 = c .before .before in
     let p2 = p1 .before in
@@ -122,14 +70,7 @@ spell-returns-2 t c =
     rw (digits-more _ _ _ (p4 .if1 .left), ← p2 .glyph .ensures) (put-then (p3 .spell .ensures) (p1 .put-byte .ensures))
 
 pub +spell-spec : {M : Type 1} → statement M
-+spell-spec = close μ-spell λ t. spell-lts.spec (
-  spell-below t,
-  spell.Post,
-  glyph-reads.Asked,
-  glyph-reads.Learnt,
-  put-byte-reads.Asked,
-  put-byte-reads.Learnt,
-)
++spell-spec = close μ-spell λ t. spell-lts.spec (spell-claims t)
     (spell-at t)
     spell.Post
     (spell-returns t)

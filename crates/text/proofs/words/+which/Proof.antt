@@ -26,127 +26,9 @@ which-at t = and 2 which-kinds.ps (is 2 which-kinds.ps μ-which t) which.Pre
 abbrev which-below : ℕ → In 2 which-kinds.ps
 which-below t = and 2 which-kinds.ps (falls 2 which-kinds.ps _<_ μ-which t) which.Pre
 
-which-returns : (t : ℕ) → which-lts.Need-returns (
-  word-reads.Asked,
-  word-reads.Learnt,
-  same-reads.Asked,
-  same-reads.Learnt,
-  past-word-reads.Asked,
-  past-word-reads.Learnt,
-  which-below t,
-  which.Post,
-) (which-at t) which.Post
-which-returns t c = (which-none _ _ _ (c .if1 .taken), omega arith)
-
-which-word-requires : (t : ℕ) → which-lts.Need-word-requires (
-  word-reads.Asked,
-  word-reads.Learnt,
-  same-reads.Asked,
-  same-reads.Learnt,
-  past-word-reads.Asked,
-  past-word-reads.Learnt,
-  which-below t,
-  which.Post,
-) (which-at t) which.Post
-which-word-requires t c κs = search needs
-
-which-same-requires : (t : ℕ) → which-lts.Need-same-requires (
-  word-reads.Asked,
-  word-reads.Learnt,
-  same-reads.Asked,
-  same-reads.Learnt,
-  past-word-reads.Asked,
-  past-word-reads.Learnt,
-  which-below t,
-  which.Post,
-) (which-at t) which.Post
-which-same-requires t c κs = search needs
-
-which-returns-2 : (t : ℕ) → which-lts.Need-returns-2 (
-  word-reads.Asked,
-  word-reads.Learnt,
-  same-reads.Asked,
-  same-reads.Learnt,
-  past-word-reads.Asked,
-  past-word-reads.Learnt,
-  which-below t,
-  which.Post,
-) (which-at t) which.Post
-which-returns-2 t c =
-    let s = c .before in
-    let w = s .before in
-    let i = w .before in
-    let a = i .before .before .before .args in
-    (which-here (a .names .now) (a .n) (a .w .now) (i .if1 .left) (ap (λ (l : List ℕ). sameBytes (a .w .now) l) (sym (w .word .ensures)) ∙ sym (s .same .ensures) ∙ c .if2 .taken), omega arith)
-
-which-past-word-requires : (t : ℕ) → which-lts.Need-past-word-requires (
-  word-reads.Asked,
-  word-reads.Learnt,
-  same-reads.Asked,
-  same-reads.Learnt,
-  past-word-reads.Asked,
-  past-word-reads.Learnt,
-  which-below t,
-  which.Post,
-) (which-at t) which.Post
-which-past-word-requires t c κs = search needs
-
-which-sub-which : (t : ℕ) → which-lts.Need-sub-which (
-  word-reads.Asked,
-  word-reads.Learnt,
-  same-reads.Asked,
-  same-reads.Learnt,
-  past-word-reads.Asked,
-  past-word-reads.Learnt,
-  which-below t,
-  which.Post,
-) (which-at t) which.Post
-which-sub-which t c = search needs
-
-which-which-requires : (t : ℕ) → which-lts.Need-which-requires (
-  word-reads.Asked,
-  word-reads.Learnt,
-  same-reads.Asked,
-  same-reads.Learnt,
-  past-word-reads.Asked,
-  past-word-reads.Learnt,
-  which-below t,
-  which.Post,
-) (which-at t) which.Post
-which-which-requires t c κs = (omega (arith, c .before .before .before .before .before .before .before .pre .0), tt)
-
-which-add-result : (t : ℕ) → which-lts.Need-add-result (
-  word-reads.Asked,
-  word-reads.Learnt,
-  same-reads.Asked,
-  same-reads.Learnt,
-  past-word-reads.Asked,
-  past-word-reads.Learnt,
-  which-below t,
-  which.Post,
-) (which-at t) which.Post
-which-add-result t c = search needs
-
-which-returns-3 : (t : ℕ) → which-lts.Need-returns-3 (
-  word-reads.Asked,
-  word-reads.Learnt,
-  same-reads.Asked,
-  same-reads.Learnt,
-  past-word-reads.Asked,
-  past-word-reads.Learnt,
-  which-below t,
-  which.Post,
-) (which-at t) which.Post
-which-returns-3 t c =
-    let p = c .before in
-    let s = p .before .before in
-    let w = s .before in
-    let i = w .before in
-    let a = i .before .before .before .args in
-    (ap (λ (k : ℕ). 1 + k) (c .which .ensures .0 ∙ ap (λ (l : List ℕ). whichOf l (a .n - 1) (a .w .now)) (p .past-word .ensures)) ∙ which-later (a .names .now) (a .n) (a .w .now) (i .if1 .left) (ap (λ (l : List ℕ). sameBytes (a .w .now) l) (sym (w .word .ensures)) ∙ sym (s .same .ensures) ∙ p .before .if2 .left), omega (arith, c .which .ensures .1))
-
-pub +which-spec : {M : Type 1} → statement M
-+which-spec = close μ-which λ t. which-lts.spec (
+-- what the calls promise, its own on a smaller measure among them
+abbrev which-claims : ℕ → which-lts.Claims
+which-claims t = (
   word-reads.Asked,
   word-reads.Learnt,
   same-reads.Asked,
@@ -156,6 +38,47 @@ pub +which-spec : {M : Type 1} → statement M
   which-below t,
   which.Post,
 )
+
+which-returns : (t : ℕ) → which-lts.Need-returns (which-claims t) (which-at t) which.Post
+which-returns t c = (which-none _ _ _ (c .if1 .taken), omega arith)
+
+which-word-requires : (t : ℕ) → which-lts.Need-word-requires (which-claims t) (which-at t) which.Post
+which-word-requires t c κs = search needs
+
+which-same-requires : (t : ℕ) → which-lts.Need-same-requires (which-claims t) (which-at t) which.Post
+which-same-requires t c κs = search needs
+
+which-returns-2 : (t : ℕ) → which-lts.Need-returns-2 (which-claims t) (which-at t) which.Post
+which-returns-2 t c =
+    let s = c .before in
+    let w = s .before in
+    let i = w .before in
+    let a = i .before .before .before .args in
+    (which-here (a .names .now) (a .n) (a .w .now) (i .if1 .left) (ap (λ (l : List ℕ). sameBytes (a .w .now) l) (sym (w .word .ensures)) ∙ sym (s .same .ensures) ∙ c .if2 .taken), omega arith)
+
+which-past-word-requires : (t : ℕ) → which-lts.Need-past-word-requires (which-claims t) (which-at t) which.Post
+which-past-word-requires t c κs = search needs
+
+which-sub-which : (t : ℕ) → which-lts.Need-sub-which (which-claims t) (which-at t) which.Post
+which-sub-which t c = search needs
+
+which-which-requires : (t : ℕ) → which-lts.Need-which-requires (which-claims t) (which-at t) which.Post
+which-which-requires t c κs = (omega (arith, c .before .before .before .before .before .before .before .pre .0), tt)
+
+which-add-result : (t : ℕ) → which-lts.Need-add-result (which-claims t) (which-at t) which.Post
+which-add-result t c = search needs
+
+which-returns-3 : (t : ℕ) → which-lts.Need-returns-3 (which-claims t) (which-at t) which.Post
+which-returns-3 t c =
+    let p = c .before in
+    let s = p .before .before in
+    let w = s .before in
+    let i = w .before in
+    let a = i .before .before .before .args in
+    (ap (λ (k : ℕ). 1 + k) (c .which .ensures .0 ∙ ap (λ (l : List ℕ). whichOf l (a .n - 1) (a .w .now)) (p .past-word .ensures)) ∙ which-later (a .names .now) (a .n) (a .w .now) (i .if1 .left) (ap (λ (l : List ℕ). sameBytes (a .w .now) l) (sym (w .word .ensures)) ∙ sym (s .same .ensures) ∙ p .before .if2 .left), omega (arith, c .which .ensures .1))
+
+pub +which-spec : {M : Type 1} → statement M
++which-spec = close μ-which λ t. which-lts.spec (which-claims t)
     (which-at t)
     which.Post
     (which-returns t)

@@ -25,120 +25,59 @@ word-at t = and 1 word-kinds.ps (is 1 word-kinds.ps μ-word t) word.Pre
 abbrev word-below : ℕ → In 1 word-kinds.ps
 word-below t = and 1 word-kinds.ps (falls 1 word-kinds.ps _<_ μ-word t) word.Pre
 
-word-find-requires : (t : ℕ) → word-lts.Need-find-requires (
+-- what the calls promise, its own on a smaller measure among them
+abbrev word-claims : ℕ → word-lts.Claims
+word-claims t = (
   find-reads.Asked,
   find-reads.Learnt,
   word-below t,
   word.Post,
-) (word-at t) word.Post
+)
+
+word-find-requires : (t : ℕ) → word-lts.Need-find-requires (word-claims t) (word-at t) word.Post
 word-find-requires t c κs = search needs
 
-word-slice-aggregate-result : (t : ℕ) → word-lts.Need-slice-aggregate-result (
-  find-reads.Asked,
-  find-reads.Learnt,
-  word-below t,
-  word.Post,
-) (word-at t) word.Post
+word-slice-aggregate-result : (t : ℕ) → word-lts.Need-slice-aggregate-result (word-claims t) (word-at t) word.Post
 word-slice-aggregate-result t c = sym (length-take-le _ _ (c .before .before .find .ensures .1))
 
-word-returns : (t : ℕ) → word-lts.Need-returns (
-  find-reads.Asked,
-  find-reads.Learnt,
-  word-below t,
-  word.Post,
-) (word-at t) word.Post
+word-returns : (t : ℕ) → word-lts.Need-returns (word-claims t) (word-at t) word.Post
 word-returns t c = word-first (c .before .before .before .before .args .s .now) (c .before .before .before .before .args .k) (c .before .before .find .result) (c .before .if1 .taken) (c .before .before .find .ensures .0)
 
-word-add-word : (t : ℕ) → word-lts.Need-add-word (
-  find-reads.Asked,
-  find-reads.Learnt,
-  word-below t,
-  word.Post,
-) (word-at t) word.Post
+word-add-word : (t : ℕ) → word-lts.Need-add-word (word-claims t) (word-at t) word.Post
 word-add-word t c = search needs
 
-word-sub-word : (t : ℕ) → word-lts.Need-sub-word (
-  find-reads.Asked,
-  find-reads.Learnt,
-  word-below t,
-  word.Post,
-) (word-at t) word.Post
+word-sub-word : (t : ℕ) → word-lts.Need-sub-word (word-claims t) (word-at t) word.Post
 word-sub-word t c = search needs
 
-word-part-word-start : (t : ℕ) → word-lts.Need-part-word-start (
-  find-reads.Asked,
-  find-reads.Learnt,
-  word-below t,
-  word.Post,
-) (word-at t) word.Post
+word-part-word-start : (t : ℕ) → word-lts.Need-part-word-start (word-claims t) (word-at t) word.Post
 word-part-word-start t c = search needs
 
-word-part-word-end : (t : ℕ) → word-lts.Need-part-word-end (
-  find-reads.Asked,
-  find-reads.Learnt,
-  word-below t,
-  word.Post,
-) (word-at t) word.Post
+word-part-word-end : (t : ℕ) → word-lts.Need-part-word-end (word-claims t) (word-at t) word.Post
 word-part-word-end t c = search needs
 
-word-sub-word-2 : (t : ℕ) → word-lts.Need-sub-word-2 (
-  find-reads.Asked,
-  find-reads.Learnt,
-  word-below t,
-  word.Post,
-) (word-at t) word.Post
+word-sub-word-2 : (t : ℕ) → word-lts.Need-sub-word-2 (word-claims t) (word-at t) word.Post
 word-sub-word-2 t c = search needs
 
-word-word-requires : (t : ℕ) → word-lts.Need-word-requires (
-  find-reads.Asked,
-  find-reads.Learnt,
-  word-below t,
-  word.Post,
-) (word-at t) word.Post
+word-word-requires : (t : ℕ) → word-lts.Need-word-requires (word-claims t) (word-at t) word.Post
 word-word-requires t c κs = (omega (arith, c .before .before .before .before .before .pre .0), tt)
 
-word-returns-2 : (t : ℕ) → word-lts.Need-returns-2 (
-  find-reads.Asked,
-  find-reads.Learnt,
-  word-below t,
-  word.Post,
-) (word-at t) word.Post
+word-returns-2 : (t : ℕ) → word-lts.Need-returns-2 (word-claims t) (word-at t) word.Post
 word-returns-2 t c =
     let p1 = c .before .before .before in
     let p2 = p1 .before in
     let p3 = p2 .before .before in
     c .word .ensures ∙ ap (λ (l : List ℕ). wordAt l (p3 .args .k - 1)) (to-end (p2 .find .result + 1) (p3 .args .s .now)) ∙ word-next (p3 .args .s .now) (p3 .args .k) (p2 .find .result) (p1 .if1 .left) (p2 .find .ensures .0)
 
-word-sub-result : (t : ℕ) → word-lts.Need-sub-result (
-  find-reads.Asked,
-  find-reads.Learnt,
-  word-below t,
-  word.Post,
-) (word-at t) word.Post
+word-sub-result : (t : ℕ) → word-lts.Need-sub-result (word-claims t) (word-at t) word.Post
 word-sub-result t c = search needs
 
-word-part-result-start : (t : ℕ) → word-lts.Need-part-result-start (
-  find-reads.Asked,
-  find-reads.Learnt,
-  word-below t,
-  word.Post,
-) (word-at t) word.Post
+word-part-result-start : (t : ℕ) → word-lts.Need-part-result-start (word-claims t) (word-at t) word.Post
 word-part-result-start t c = search needs
 
-word-part-result-end : (t : ℕ) → word-lts.Need-part-result-end (
-  find-reads.Asked,
-  find-reads.Learnt,
-  word-below t,
-  word.Post,
-) (word-at t) word.Post
+word-part-result-end : (t : ℕ) → word-lts.Need-part-result-end (word-claims t) (word-at t) word.Post
 word-part-result-end t c = search needs
 
-word-returns-3 : (t : ℕ) → word-lts.Need-returns-3 (
-  find-reads.Asked,
-  find-reads.Learnt,
-  word-below t,
-  word.Post,
-) (word-at t) word.Post
+word-returns-3 : (t : ℕ) → word-lts.Need-returns-3 (word-claims t) (word-at t) word.Post
 word-returns-3 t c =
     let p1 = c .before in
     let p2 = p1 .before in
@@ -147,12 +86,7 @@ word-returns-3 t c =
     to-end (p3 .find .result) (p4 .args .s .now) ∙ word-past (p4 .args .s .now) (p4 .args .k) (p3 .find .result) (p2 .if1 .left) (p3 .find .ensures .0) (p1 .if2 .left)
 
 pub +word-spec : {M : Type 1} → statement M
-+word-spec = close μ-word λ t. word-lts.spec (
-  find-reads.Asked,
-  find-reads.Learnt,
-  word-below t,
-  word.Post,
-)
++word-spec = close μ-word λ t. word-lts.spec (word-claims t)
     (word-at t)
     word.Post
     (word-find-requires t)
