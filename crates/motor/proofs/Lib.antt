@@ -28,3 +28,4 @@ pub mod Stays
 pub mod Clock
 pub mod Looks
 pub mod Echo
+pub mod ThinWalk

@@ -1,7 +1,7 @@
 -- What a motor answers to a frame, case by case in the numbers' order. Assumes nothing.
 use Prim.Native.Nat.{ℕ}
-use mathlib.Core.Path.{_≡_}
-use mathlib.Core.Bool.{true, false}
+use mathlib.Core.Path.{_≡_, refl}
+use mathlib.Core.Bool.{Bool, true, false}
 use borrow.Author.Tests.{eqb-true, eq-eqb, ne-eqb}
 use Rattle.codec.specs.declared.bus.CanFrame.{CanFrame}
 use Rattle.codec.specs.declared.error.Refusal.the-variants.{FrameNotAccepted, TimeOutOfRange, ReadFailed, ReadingsFull}
@@ -12,7 +12,7 @@ use Rattle.motor.specs.declared.motor.Motor.{Motor}
 use Rattle.motor.specs.declared.readings.PutResult.{PutResult}
 use Rattle.motor.specs.declared.readings.PutAnswer.the-variants.{Kept, Full}
 use Rattle.motor.specs.Readings.{putOf}
-use Rattle.motor.specs.Receive.{frameType, accepts, late, counted, feedbackAfter, faultAfter, pingAfter, told, isRead, readStatus, readId, readStored, frameSaid, stateAfter, readingsAfter, heardWith, heardOf}
+use Rattle.motor.specs.Receive.{frameType, accepts, late, counted, feedbackAfter, faultAfter, pingAfter, told, isRead, readStatus, readId, readStored, frameSaid, stateAfter, readingsAfter, heardWith, heardOf, stateHeard}
 
 -- a read reply tells nothing but its value
 pub read-tells : (s : State) (f : CanFrame) → isRead f ≡ true → told s f ≡ s
@@ -48,3 +48,15 @@ module _ (m : Motor) (f : CanFrame) (now : ℕ) where
           pub heard-value : p .said ≡ Kept → heardOf m f now ≡ heardWith (counted (m .state) now) (p .readings) Passed
           unfolding heardOf frameSaid stateAfter readingsAfter
           heard-value k = rw (a, l, r, eq-eqb (readStatus f) 0 s, ← e, k, r, read-tells (counted (m .state) now) f r)
+
+-- a frame that is no read reply concerns the state alone
+pub heard-quiet : (m : Motor) (f : CanFrame) (now : ℕ) → isRead f ≡ false
+    → heardOf m f now ≡ heardWith (stateHeard (m .state) f now .state) (m .readings) (stateHeard (m .state) f now .said)
+unfolding stateHeard
+heard-quiet m f now r = go (accepts (m .state .«motor_id») f) (late (m .state .clock) now) refl refl
+  where
+    go : (a l : Bool) → accepts (m .state .«motor_id») f ≡ a → late (m .state .clock) now ≡ l
+        → heardOf m f now ≡ heardWith (stateHeard (m .state) f now .state) (m .readings) (stateHeard (m .state) f now .said)
+    go false l p q = rw (heard-13 m f now p, p)
+    go true true p q = rw (heard-7 m f now p q, p, q)
+    go true false p q = rw (heard-other m f now p q r, p, q)

@@ -32,6 +32,7 @@ use Rattle.motor.specs.declared.readings.Readings.{Readings}
 use Rattle.motor.specs.declared.readings.PutAnswer.{PutAnswer}
 use Rattle.motor.specs.declared.readings.PutAnswer.the-variants.{Kept, Full}
 use Rattle.motor.specs.declared.receive.Heard.{Heard}
+use Rattle.motor.specs.declared.quiet.StateHeard.{StateHeard}
 use Rattle.motor.specs.Numbers.{firstOf}
 use Rattle.motor.specs.Readings.{putOf}
 
@@ -169,3 +170,15 @@ heardOf m f now =
     let put = putOf (m .readings) (readId f) (readStored f) in
     let said = frameSaid (m .state) f now (isFull (put .said)) in
     heardWith (stateAfter said (m .state) f now) (readingsAfter said f (put .readings) (m .readings)) said
+
+-- ---- a frame that is no read reply: the state alone
+
+abbrev pub stateWithSaid : State → Checked → StateHeard
+stateWithSaid state said = record { state = state; said = said }
+
+-- 13, 7
+unfoldable pub stateHeard : State → CanFrame → ℕ → StateHeard
+stateHeard s f now =
+    cond (accepts (s .«motor_id») f)
+    (cond (late (s .clock) now) (stateWithSaid s (Refused TimeOutOfRange)) (stateWithSaid (told (counted s now) f) Passed))
+    (stateWithSaid s (Refused FrameNotAccepted))

@@ -4,6 +4,8 @@ mod arguments;
 mod effects;
 pub mod feedback;
 pub mod motor;
+pub mod quiet;
 pub mod readings;
 pub mod receive;
 pub mod registration;
+pub mod thin;

@@ -150,7 +150,7 @@ fn fault_after(old: HeldFault, frame: CanFrame) -> HeldFault
 }
 
 // The state after what a frame tells.
-fn told_by(s: State, frame: CanFrame) -> State
+pub(crate) fn told_by(s: State, frame: CanFrame) -> State
     ensures { λ r. ⌜ r ≡ told s frame ⌝ }
 {
     let model = s.model;
@@ -178,7 +178,7 @@ fn told_by(s: State, frame: CanFrame) -> State
 }
 
 // The frame's time, and one response more.
-fn counted_at(s: State, now: u64) -> State
+pub(crate) fn counted_at(s: State, now: u64) -> State
     ensures { λ r. ⌜ r ≡ counted s now ⌝ }
 {
     let mut out = s;
@@ -189,7 +189,7 @@ fn counted_at(s: State, now: u64) -> State
 
 // ---- read replies
 
-fn is_read(frame: CanFrame) -> bool
+pub fn is_read(frame: CanFrame) -> bool
     ensures { λ r. ⌜ r ≡ isRead frame ⌝ }
 {
     type_of(frame) == CommunicationType::READ_PARAMETER

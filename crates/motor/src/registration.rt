@@ -59,7 +59,23 @@ fn model_checked(found: ModelNamed, write_wait: u64, time: u64) -> Admission
     admitted_at(model, write_wait, time)
 }
 
-// The tests of a registration that only its arguments decide: 1, 2, 3, 9, 7. A model's name is any bytes.
+// The tests of a registration that only its arguments decide: 1, 2, 3, 9, 7.
+pub fn registration_of(
+    motor_id: u16,
+    feedback_id: u16,
+    found: ModelNamed,
+    write_wait: u64,
+    time: u64,
+) -> Admission
+    ensures { λ r. ⌜ r ≡ registrationOf «motor_id» «feedback_id» found «write_wait» time ⌝ }
+{
+    match ids_checked(motor_id, feedback_id) {
+        Checked::Passed => model_checked(found, write_wait, time),
+        Checked::Refused(refusal) => Admission::Refused(refusal),
+    }
+}
+
+// The same, the model named by any bytes.
 pub fn registration(
     motor_id: u16,
     feedback_id: u16,
@@ -70,8 +86,5 @@ pub fn registration(
     ensures { λ r. ⌜ r ≡ registrationOf «motor_id» «feedback_id» (modelNamed (now (name .entry))) «write_wait» time ⌝ }
 {
     let found = model_named(name);
-    match ids_checked(motor_id, feedback_id) {
-        Checked::Passed => model_checked(found, write_wait, time),
-        Checked::Refused(refusal) => Admission::Refused(refusal),
-    }
+    registration_of(motor_id, feedback_id, found, write_wait, time)
 }

@@ -21,3 +21,7 @@ pub mod Definitions
 pub mod EchoAtStation
 pub mod HeldReadings
 pub mod Demand2
+pub mod IdIndex
+pub mod Lending
+pub mod Lenses
+pub mod CallWalk

@@ -6,3 +6,4 @@ pub mod Demands
 pub mod Examples
 pub mod Definitions
 pub mod Demand2
+pub mod Lent

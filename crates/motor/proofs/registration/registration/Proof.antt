@@ -1,9 +1,4 @@
--- Right because the ids' tests come before the model's (FirstOf).
-use Rattle.motor.proofs.FirstOf.{registered}
-use Rattle.codec.specs.declared.error.Checked.the-variants.{Passed, Refused}
-use Rattle.codec.specs.Models.{modelNamed}
-use denote.Ref.{now}
-use mathlib.Core.Path.{sym, _∙_}
+-- Right because the name's model is tested as any.
 use borrow.Author.Needs.{needs}
 use Rattle.motor.proofs.registration.registration.Statement.{statement}
 use Rattle.motor.proofs.registration.registration.Tie as tie
@@ -11,37 +6,11 @@ use Rattle.motor.proofs.registration.registration.Tie as tie
 model-named-requires : tie.Need-model-named-requires
 model-named-requires c κs = search needs
 
-ids-checked-requires : tie.Need-ids-checked-requires
-ids-checked-requires c κs = search needs
-
-enum-told : tie.Need-enum-told
-enum-told c = search needs
-
-model-checked-requires : tie.Need-model-checked-requires
-model-checked-requires c κs = search needs
-
-enum-known-refusal : tie.Need-enum-known-refusal
-enum-known-refusal c = search needs
+registration-of-requires : tie.Need-registration-of-requires
+registration-of-requires c κs = search needs
 
 returns : tie.Need-returns
-returns c = let a = c .before .before .before .before .before .before .args in
-    let k = c .before .before .before .before in
-    rw (← k .model-named .ensures)
-    (c .model-checked .ensures
-    ∙ sym (registered (a .motor-id) (a .feedback-id) (k .model-named .result) (a .write-wait) (a .time) Passed (sym (c .before .before .before .ids-checked .ensures) ∙ c .before .enum-told .given .1)))
-
-returns-2 : tie.Need-returns-2
-returns-2 c = let a = c .before .before .before .before .before .before .args in
-    sym (registered (a .motor-id) (a .feedback-id) (modelNamed (now (a .name))) (a .write-wait) (a .time) (Refused (c .before .refusal .given .0 .0)) (sym (c .before .before .before .ids-checked .ensures) ∙ c .before .refusal .given .1))
+returns c = rw (← c .before .model-named .ensures) (c .registration-of .ensures)
 
 pub registration-spec : {M : Type 1} → statement M
-registration-spec =
-    tie.close
-    (tie.spec
-    model-named-requires
-    ids-checked-requires
-    enum-told
-    model-checked-requires
-    enum-known-refusal
-    returns
-    returns-2)
+registration-spec = tie.close (tie.spec model-named-requires registration-of-requires returns)
