@@ -1,3 +1,3 @@
 fn main() {
-    locate::link_ours();
+    locate::link_ours("codec_abi");
 }

@@ -148,9 +148,10 @@ pub fn parameter_info(id: u16) -> ParameterInfo
     ensures { λ r. ⌜ r ≡ infoOf id ⌝ }
 {
     let wanted = id as u32;
+    let table = PARAMETER_TABLE;
     let mut i: usize = 0;
     while i < 62 {
-        let row = PARAMETER_TABLE[i];
+        let row = table[i];
         if row / 256 == wanted {
             return coded_as(row % 256);
         }

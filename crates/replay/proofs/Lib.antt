@@ -1,2 +1,6 @@
 pub mod Handing
 pub mod Fits
+pub mod Turning
+pub mod Again
+pub mod LoopWalk
+pub mod LineWalk

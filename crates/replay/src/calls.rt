@@ -101,7 +101,7 @@ fn moved(m: Moved, time: u64, out: &mut [u8], at: usize) -> Went
     Went { station, at: p }
 }
 
-fn frame_of(id: u32, bytes: u64, extended: bool, dlc: u8, rx: bool) -> CanFrame
+pub(crate) fn frame_of(id: u32, bytes: u64, extended: bool, dlc: u8, rx: bool) -> CanFrame
     ensures { λ r. ⌜ r ≡ spec.frameOf id bytes extended dlc rx ⌝ }
 {
     let data = payload(bytes);

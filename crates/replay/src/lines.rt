@@ -1,20 +1,18 @@
 // Standard input cut into lines, and the answers written before more is awaited.
-use crate::calls::Went;
 use crate::calls::on_line;
+use crate::turns::take_lines;
+use motor::motor::Motor;
 use station::station::Station;
 use station::station::new;
 ghost use Prim.Native.Nat.{_≤_};
 
-// What is left after the whole lines of a read: the station, how many bytes of a line that isn't whole are kept, and whether every
+// What is left after the whole lines of a read: the places, how many bytes of a line that isn't whole are kept, and whether every
 // write went well.
 pub struct Turn {
-    pub station: Station,
+    pub motors: [Motor; 8],
     pub kept: usize,
     pub good: bool,
 }
-
-// Where less than an answer's length is free, what stands in the buffer is written first.
-const ROOM: usize = 57344;
 
 // Of a line that fills the buffer so many bytes are kept: it is too long, whatever follows.
 const KEPT: usize = 5000;
@@ -22,22 +20,24 @@ const KEPT: usize = 5000;
 // Answers the lines of the input until it ends or a write fails. Nothing says that an input ends, so the turns are counted down
 // from a number that no run uses up.
 pub(crate) fn run(inp: &mut [u8], out: &mut [u8]) {
-    let mut st = new();
+    let st = new();
+    let mut motors = st.motors;
     let mut kept: usize = 0;
     let mut turns = u64::MAX;
     while turns > 0 {
         turns -= 1;
         let n = read_after(inp, kept);
         if n <= kept {
-            finish(st, inp, kept, out);
+            finish(motors, inp, kept, out);
             return;
         }
-        let turn = whole_lines(st, inp, n, out);
+        let turn = whole_lines(motors, inp, n, out);
         if !turn.good {
             complain();
             return;
         }
-        st = turn.station;
+        let after = turn.motors;
+        motors = after;
         kept = turn.kept;
     }
 }
@@ -59,52 +59,38 @@ fn read_after(inp: &mut [u8], kept: usize) -> usize {
 }
 
 // Answers the lines that end among the first n bytes, writes the answers, and keeps what follows the last line.
-fn whole_lines(st: Station, inp: &mut [u8], n: usize, out: &mut [u8]) -> Turn {
-    let mut s = st;
-    let mut from: usize = 0;
-    let mut at: usize = 0;
-    let mut good = true;
-    let mut end = line_end(inp, 0, n);
-    while end < n {
-        if ROOM < at {
-            good = flush(out, at, good);
-            at = 0;
-        }
-        let went = on_part(s, inp, from, end, out, at);
-        s = went.station;
-        at = went.at;
-        from = end + 1;
-        end = line_end(inp, from, n);
-    }
-    good = flush(out, at, good);
-    let kept = keep(inp, from, n);
+fn whole_lines(motors: [Motor; 8], inp: &mut [u8], n: usize, out: &mut [u8]) -> Turn {
+    let taken = take_lines(motors, inp, n, out);
+    let after = taken.motors;
+    let c = taken.cursor;
+    let good = flush(out, c.at, c.good);
+    let kept = keep(inp, c.from, n);
     Turn {
-        station: s,
+        motors: after,
         kept,
         good,
     }
 }
 
 // The last line, where the input ends without LF.
-fn finish(st: Station, inp: &[u8], kept: usize, out: &mut [u8]) {
-    let went = on_part(st, inp, 0, kept, out, 0);
-    if !flush(out, went.at, true) {
+fn finish(motors: [Motor; 8], inp: &[u8], kept: usize, out: &mut [u8]) {
+    let st = Station { motors };
+    let at = last_line(st, inp, kept, out);
+    if !flush(out, at, true) {
         complain();
     }
 }
 
-// Answers the line between two places.
-fn on_part(st: Station, inp: &[u8], from: usize, end: usize, out: &mut [u8], at: usize) -> Went {
-    if from <= end {
-        if end <= inp.len() {
-            return on_line(st, &inp[from..end], out, at);
-        }
+fn last_line(st: Station, inp: &[u8], kept: usize, out: &mut [u8]) -> usize {
+    if kept <= inp.len() {
+        let went = on_line(st, &inp[..kept], out, 0);
+        return went.at;
     }
-    Went { station: st, at }
+    0
 }
 
 // The index of the first LF at or after `from` and below n, or n.
-fn line_end(inp: &[u8], from: usize, n: usize) -> usize
+pub(crate) fn line_end(inp: &[u8], from: usize, n: usize) -> usize
     ensures { λ r. ⌜ (from ≤ n → from ≤ r) ⌝ }
 {
     if n <= inp.len() {
@@ -147,7 +133,7 @@ fn move_byte(inp: &mut [u8], to: usize, from: usize) {
 }
 
 // Writes the first n bytes of out, and answers whether this and what came before went well.
-fn flush(out: &[u8], n: usize, good: bool) -> bool {
+pub(crate) fn flush(out: &[u8], n: usize, good: bool) -> bool {
     if n <= out.len() {
         if !io::write_all(1, &out[0..n]) {
             return false;

@@ -2,6 +2,7 @@
 mod calls;
 mod errors;
 mod lines;
+mod turns;
 
 fn main() {
     let mut inp = io::large_buffer();

@@ -1,7 +1,7 @@
 -- A call on a lent station is right because it asks the ids of the eight places where it goes, and what it stores at that place, and what it returns, are the two parts of the by-value function's answer there; the other places aren't touched.
 use mathlib.Core.Path.{_≡_, refl, sym, _∙_, subst}
 use mathlib.Core.Bool.{Bool, true, false, not}
-use Prim.Native.Nat.{ℕ, _+_, _*_, _<_, _^_}
+use Prim.Native.Nat.{ℕ, _*_, _<_, _^_}
 use native.Mathlib.Nat.{zero-add}
 use mathlib.Core.List.{[], _∷_, List}
 use lib.Dec.{T, lit<}

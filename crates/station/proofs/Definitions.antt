@@ -60,7 +60,7 @@ reading-rules =
     }
 
 pub receive-rules : ReceiveRules
-receive-rules = record { readings = reading-rules; accepted = λ k x r p. p; heard = λ k x r p. p .0; as-lone = λ k x r p. p .1 }
+receive-rules = record { readings = reading-rules; accepted = λ k x r p. p; read = λ k x r p. p; heard = λ k x r p. p .0; quiet = λ k x r p. p; as-lone = λ k x r p. p .1 }
 
 pub operations : Operations
 operations =
@@ -73,6 +73,7 @@ operations =
       set-protocol = λ k x r p. p;
       begins = λ k x r p. p;
       advances = λ k x r p. p;
+      admission-of = λ k x r p. p;
       admission = λ k x r p. p;
       new = λ k x r p. p .0;
       new-as-lone = λ k x r p. p .1;

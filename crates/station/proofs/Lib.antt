@@ -25,3 +25,5 @@ pub mod IdIndex
 pub mod Lending
 pub mod Lenses
 pub mod CallWalk
+pub mod Local
+pub mod Structs

@@ -59,7 +59,7 @@ use Rattle.motor.specs.Calls.{registrationOf}
 use Rattle.motor.specs.Lone.{loneStart, loneStep, hears, loneLook}
 use Rattle.motor.specs.Motors.{newMotor, startOf, stepOf, lookOf, removalOf, loneOf, AnsweredAs, HeardAs}
 use Rattle.motor.specs.Readings.{lookup, Lists, atFirst, dropIn, Rep, Holds, Puts, listing, emptyReadings, findOf, putOf, dropOf, listingOf}
-use Rattle.motor.specs.Receive.{accepts, heardOf}
+use Rattle.motor.specs.Receive.{accepts, isRead, heardOf, stateHeard}
 use Rattle.motor.proofs.motor.look.Reads as look-reads
 use Rattle.motor.proofs.motor.new.Reads as new-reads
 use Rattle.motor.proofs.motor.removal.Reads as removal-reads
@@ -70,9 +70,12 @@ use Rattle.motor.proofs.readings.empty.Reads as empty-reads
 use Rattle.motor.proofs.readings.find.Reads as find-reads
 use Rattle.motor.proofs.readings.listed.Reads as listed-reads
 use Rattle.motor.proofs.readings.put.Reads as put-reads
+use Rattle.motor.proofs.quiet.hear_state.Reads as hear-state
 use Rattle.motor.proofs.receive.accepts_frame.Reads as accepts-frame
+use Rattle.motor.proofs.receive.is_read.Reads as is-read
 use Rattle.motor.proofs.receive.process_feedback_frame.Reads as process-feedback-frame
 use Rattle.motor.proofs.registration.registration.Reads as registration-reads
+use Rattle.motor.proofs.registration.registration_of.Reads as registration-of
 
 -- ---- a contract P, of lifetimes k and arguments x: every result r that it allows has Q x r; or is g x
 
@@ -160,7 +163,9 @@ pub record ReadingRules : Type 0 where
 pub record ReceiveRules : Type 0 where
   pub readings : ReadingRules
   pub accepted : Gives accepts-frame.Post (of2 accepts)
+  pub read : Gives is-read.Post (of1 isRead)
   pub heard : Gives process-feedback-frame.Post (of3 heardOf)
+  pub quiet : Gives hear-state.Post (of3 stateHeard)
   pub as-lone : Means process-feedback-frame.Post (of3 (λ m f time r. (l : List Entry) → Holds (m .readings) l → HeardAs r (hears (loneOf m l) f time)))
 
 pub record Operations : Type 0 where
@@ -172,6 +177,7 @@ pub record Operations : Type 0 where
   pub set-protocol : Gives encode-set-protocol.Post (of1 setProtocol)
   pub begins : Gives begin-at.Post (of3 (λ s time c. inTime time (begin s time c)))
   pub advances : Gives advance-at.Post (of4 (λ s time op f. inTime time (advance s time op f (op .phase))))
+  pub admission-of : Gives registration-of.Post (of5 registrationOf)
   pub admission : Gives registration-reads.Post (of5 (λ id host name wait time. registrationOf id host (modelNamed (now name)) wait time))
   pub new : Gives new-reads.Post (of5 newMotor)
   pub new-as-lone : Means new-reads.Post (of5 (λ id host model wait time r. Holds (r .readings) []))

@@ -1,4 +1,4 @@
-//! Where things are: the Rust's files, which are compiled where they stand, and our static library.
+//! Where things are: the Rust's files, which are compiled where they stand, and our static libraries.
 //! The build scripts ask here.
 use std::env;
 use std::path::{Path, PathBuf};
@@ -50,20 +50,21 @@ pub fn announce() {
     }
 }
 
-/// Links our static library. Without it nothing can be compared, and that is a failure.
-pub fn link_ours() {
+/// Links the static library of one of our crates. Without it nothing can be compared, and that is a
+/// failure.
+pub fn link_ours(name: &str) {
     println!("cargo::rerun-if-changed=build.rs");
     let folder = folder("COMBRADISH_STATICLIB", "../target/staticlib");
-    let library = folder.join("libcodec_abi.a");
+    let library = folder.join(format!("lib{name}.a"));
     println!("cargo::rerun-if-changed={}", library.display());
     if !library.is_file() {
         println!(
-            "cargo::error=no libcodec_abi.a in {}: make it by `rt staticlib codec_abi`, or name its folder in COMBRADISH_STATICLIB",
+            "cargo::error=no lib{name}.a in {}: make it by `rt staticlib {name}`, or name its folder in COMBRADISH_STATICLIB",
             folder.display()
         );
     }
     println!("cargo::rustc-link-search=native={}", folder.display());
-    println!("cargo::rustc-link-lib=static=codec_abi");
+    println!("cargo::rustc-link-lib=static={name}");
 }
 
 /// What a command says and answers where the Rust's files aren't found.

@@ -24,14 +24,14 @@ impl CanBus for Silent {
     }
 }
 
-/// The motor of id 1 and host FD, of this model.
-pub fn motor(name: &str) -> Result<RobstrideMotor> {
-    RobstrideMotor::new(1, 0xFD, name, Arc::new(Silent))
+/// The motor of this id and host FD, of this model.
+pub fn motor(id: u16, name: &str) -> Result<RobstrideMotor> {
+    RobstrideMotor::new(id, 0xFD, name, Arc::new(Silent))
 }
 
 /// A model's limits: `model_limits`, and the gains from a motor of the model.
 pub fn model_limits(name: &str) -> Limits {
-    match (motor::model_limits(name), motor(name)) {
+    match (motor::model_limits(name), motor(1, name)) {
         (Some((p, v, t)), Ok(motor)) => {
             let (kp, kd) = look::gain_limits(&motor);
             Limits {

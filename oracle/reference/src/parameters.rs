@@ -103,7 +103,7 @@ pub struct Reader {
 
 impl Reader {
     pub fn new() -> Reader {
-        let motor = crate::models::motor("rs-00").expect("a known model");
+        let motor = crate::models::motor(1, "rs-00").expect("a known model");
         Reader { motor }
     }
 

@@ -10,10 +10,10 @@ use Rattle.codec.proofs.registers.parameter_info.Statement.{statement}
 use Rattle.codec.proofs.registers.parameter_info.Tie as tie
 
 abbrev Inv-loop : tie.InvT-loop
-Inv-loop id wanted i₀ i = (i ≤ 62) × ((k : ℕ) → k < i → getD rows k 0 / 256 ≡ id → ⊥)
+Inv-loop id wanted table i₀ i = (i ≤ 62) × ((k : ℕ) → k < i → getD rows k 0 / 256 ≡ id → ⊥)
 
 abbrev μ-loop : tie.MeasureT-loop
-μ-loop id wanted i₀ i = 62 - i
+μ-loop id wanted table i₀ i = 62 - i
 
 loop-holds : tie.Need-loop-holds Inv-loop μ-loop
 loop-holds c = (omega arith, λ k h e. absurd (omega arith))

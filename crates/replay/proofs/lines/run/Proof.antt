@@ -6,10 +6,10 @@ use Rattle.replay.proofs.lines.run.Statement.{statement}
 use Rattle.replay.proofs.lines.run.Tie as tie
 
 abbrev Inv-loop : tie.InvT-loop
-Inv-loop inp₀ out₀ st₀ kept₀ turns₀ inp out st kept turns = (length inp ≡ length inp₀) × (length out ≡ length out₀)
+Inv-loop inp₀ out₀ motors₀ kept₀ turns₀ inp out motors kept turns = (length inp ≡ length inp₀) × (length out ≡ length out₀)
 
 abbrev μ-loop : tie.MeasureT-loop
-μ-loop inp₀ out₀ st₀ kept₀ turns₀ inp out st kept turns = turns
+μ-loop inp₀ out₀ motors₀ kept₀ turns₀ inp out motors kept turns = turns
 
 new-requires : tie.Need-new-requires Inv-loop μ-loop
 new-requires c κs = search needs

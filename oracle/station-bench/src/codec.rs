@@ -1,11 +1,12 @@
-//! The inputs, the loop and the least time.
+//! Encoding and decoding: both are called through the same C signature, from the same loop, on the same
+//! inputs.
+use crate::{table, timing};
 use common::answers::Motion;
 use common::random::{Random, SEED};
 use common::Command;
 use reference::models::all_limits;
 use reference::{motion, status};
 use std::hint::black_box;
-use std::time::Instant;
 
 /// Inputs in the table, passes over it in one run, runs of which the least counts.
 const INPUTS: usize = 4096;
@@ -131,31 +132,19 @@ fn decode_all(decode: Decode, inputs: &[Input]) -> u64 {
     sum
 }
 
-/// The time of a call in one run, in ns.
-fn timed(pass: &impl Fn() -> u64) -> f64 {
-    let start = Instant::now();
-    for _ in 0..PASSES {
-        black_box(pass());
-    }
-    start.elapsed().as_secs_f64() * 1e9 / (INPUTS * PASSES) as f64
-}
-
 /// Runs of both in turn, of each the least.
 fn race(name: &str, rust: impl Fn() -> u64, ours: impl Fn() -> u64) {
     assert_eq!(rust(), ours(), "{name}: the answers differ");
-    let mut least = [f64::INFINITY; 2];
-    for _ in 0..RUNS {
-        least = [least[0].min(timed(&rust)), least[1].min(timed(&ours))];
-    }
-    let [rust, ours] = least;
-    let ratio = ours / rust;
-    println!("{name}: the Rust {rust:.2} ns, ours {ours:.2} ns, ratio {ratio:.2}");
+    let passes = |pass: &dyn Fn() -> u64| (0..PASSES).for_each(|_| _ = black_box(pass()));
+    let least = timing::least(RUNS, [&|| passes(&rust), &|| passes(&ours)]);
+    let [rust, ours] = least.map(|least| least / (INPUTS * PASSES) as f64);
+    table::times(name, rust, ours);
 }
 
 pub fn run() {
     let inputs = inputs();
     race(
-        "encode_mit_command",
+        "encode_mit_command, five targets",
         || encode_all(rust_encode, &inputs),
         || encode_all(ours::codec_encode_mit_command, &inputs),
     );

@@ -1,3 +1,4 @@
 fn main() {
     locate::announce();
+    locate::link_ours("station_abi");
 }

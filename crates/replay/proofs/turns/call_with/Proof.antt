@@ -1,0 +1,13 @@
+-- Right because no call but a frame looks at the frame beside it.
+use borrow.Author.Needs.{needs}
+use Rattle.replay.proofs.turns.call_with.Statement.{statement}
+use Rattle.replay.proofs.turns.call_with.Tie as tie
+
+no-frame-requires : tie.Need-no-frame-requires
+no-frame-requires c κs = search needs
+
+returns : tie.Need-returns
+returns c = rw (c .no-frame .ensures)
+
+pub call-with-spec : {M : Type 1} → statement M
+call-with-spec = tie.close (tie.spec no-frame-requires returns)

@@ -1,0 +1,58 @@
+-- A line as a call on a lent station, and its answer's text. Definitions only.
+use Prim.Native.Nat.{ℕ, _-_}
+use mathlib.Core.Bool.{true, false, cond}
+use mathlib.Core.List.{List, []}
+use lib.Dec.{ltb, leb}
+use lib.ListN.{length, take, drop}
+use Rattle.codec.specs.declared.model.ModelNamed.{ModelNamed}
+use Rattle.codec.specs.Models.{modelNamed}
+use Rattle.engine.specs.Requests.{noFrame}
+use Rattle.session.specs.declared.event.Event.{Event}
+use Rattle.session.specs.declared.event.Event.the-variants as event
+use Rattle.session.specs.Lines.{eventOf}
+use Rattle.station.specs.declared.lent.Ask.{Ask}
+use Rattle.station.specs.declared.lent.Ask.the-variants as ask
+use Rattle.station.specs.declared.lent.Reply.{Reply}
+use Rattle.station.specs.declared.lent.Reply.the-variants as reply
+use Rattle.station.specs.declared.lent.Replied.{Replied}
+use Rattle.answers.specs.Said.{toldText, saidText}
+use Rattle.text.specs.Words.{wordAt}
+use Rattle.replay.specs.declared.turns.Line.{Line}
+use Rattle.replay.specs.Events.{frameOf, shown}
+
+-- the bytes between two places, none where there are no such places
+unfoldable pub lineAt : List ℕ → ℕ → ℕ → List ℕ
+lineAt inp from end = cond (leb from end) (cond (leb end (length inp)) (take (end - from) (drop from inp)) []) []
+
+-- an answer is put at the front of the buffer where less than an answer's length is free
+unfoldable pub roomAt : ℕ → ℕ
+roomAt p = cond (ltb 57344 p) 0 p
+
+abbrev pub callWith : Ask → ℕ → Line
+callWith a time = record { asks = true; asked = record { ask = a; frame = noFrame }; time = time }
+
+abbrev pub noCall : Line
+noCall = record { asks = false; asked = record { ask = ask.Step 0 0; frame = noFrame }; time = 0 }
+
+-- register, start, step, frame and remove are calls on a motor; the rest goes by value
+unfoldable pub lineOf : Event → ModelNamed → Line
+lineOf event.Nothing model = noCall
+lineOf (event.Error reason) model = noCall
+lineOf event.Fresh model = noCall
+lineOf (event.Register id host wait time) model = callWith (ask.Register id host model wait time) time
+lineOf (event.Start id time command) model = callWith (ask.Start id command time) time
+lineOf (event.Step id time) model = callWith (ask.Step id time) time
+lineOf (event.Frame time id v extended dlc rx) model =
+    record { asks = true; asked = record { ask = ask.Frame time; frame = frameOf id v extended dlc rx }; time = time }
+lineOf (event.Look id) model = noCall
+lineOf (event.Remove id time) model = callWith (ask.Remove id time) time
+
+unfoldable pub askedIn : List ℕ → Line
+askedIn line = lineOf (eventOf (shown line)) (modelNamed (wordAt (shown line) 3))
+
+abbrev pub replyText : Reply → Replied → ℕ → List ℕ
+replyText (reply.Told said) r time = toldText said
+replyText (reply.Moved said) r time = saidText said (r .frame) (r .result) time
+
+unfoldable pub repliedText : Replied → ℕ → List ℕ
+repliedText r time = replyText (r .reply) r time

@@ -1,0 +1,292 @@
+// A line answered on the lent station: the eight places. A call goes to the place that it names; what reads or replaces the whole
+// station, or nothing of it, goes by value.
+use crate::calls::frame_of;
+use crate::calls::on_line;
+use crate::lines::flush;
+use crate::lines::line_end;
+use answers::said::put_said;
+use answers::said::put_told;
+use codec::model::model_named;
+use engine::requests::no_frame;
+use motor::motor::Motor;
+use session::event::Event;
+use session::line::event_of;
+use session::line::shown;
+use station::lent::Ask;
+use station::lent::Asked;
+use station::lent::Replied;
+use station::lent::Reply;
+use station::lent::call;
+use station::station::Station;
+ghost use mathlib.Core.Path.{_≡_};
+ghost use mathlib.Core.Bool.{true};
+ghost use Prim.Native.Nat.{_<_};
+ghost use Rattle.codec.specs.Models.{modelNamed};
+ghost use Rattle.text.specs.Put.{Put};
+ghost use Rattle.station.specs.Lent.{stationOf};
+ghost use Rattle.replay.specs.Events as spec;
+ghost use Rattle.replay.specs.Turns as turn;
+
+// Where a line stands in the input, from its first byte to its LF, and where its answer goes. left falls from line to line: no
+// more of them where more is false. good is whether every write went well.
+pub struct Cursor {
+    pub from: usize,
+    pub end: usize,
+    pub at: usize,
+    pub left: usize,
+    pub more: bool,
+    pub good: bool,
+}
+
+// What a line asks of a lent station, where it is a call on a motor; and the call's time.
+pub struct Line {
+    pub asks: bool,
+    pub asked: Asked,
+    pub time: u64,
+}
+
+// The places after lines, and where the next line stands.
+pub struct Taken {
+    pub motors: [Motor; 8],
+    pub cursor: Cursor,
+}
+
+// Where an answer goes, and whether every write went well.
+struct Room {
+    at: usize,
+    good: bool,
+}
+
+// Where less than an answer's length is free, what stands in the buffer is written first.
+const ROOM: usize = 57344;
+
+// ---- lines
+
+// A line without its LF, and one CR at its end dropped.
+fn line_in<'a>(inp: &'a [u8], c: Cursor) -> &'a [u8]
+    ensures { λ r. ⌜ now r ≡ turn.lineAt (now (inp .entry)) (c .from) (c .end) ⌝ }
+{
+    let from = c.from;
+    let end = c.end;
+    if from <= end {
+        if end <= inp.len() {
+            return &inp[from..end];
+        }
+    }
+    &inp[0..0]
+}
+
+// The line that begins at a place, and what follows it.
+fn line_from(inp: &[u8], n: usize, from: usize, at: usize, left: usize, good: bool) -> Cursor
+    ensures { λ r. ⌜ (r .«at» ≡ «at») × (r .more ≡ true → r .left < left) ⌝ }
+{
+    let end = line_end(inp, from, n);
+    if end < n {
+        let rest = n - end;
+        if rest < left {
+            return Cursor {
+                from,
+                end,
+                at,
+                left: rest,
+                more: true,
+                good,
+            };
+        }
+    }
+    Cursor {
+        from,
+        end,
+        at,
+        left: 0,
+        more: false,
+        good,
+    }
+}
+
+pub(crate) fn first_line(inp: &[u8], n: usize) -> Cursor {
+    line_from(inp, n, 0, 0, usize::MAX, true)
+}
+
+fn next_line(inp: &[u8], n: usize, c: Cursor, at: usize, good: bool) -> Cursor
+    ensures { λ r. ⌜ (r .«at» ≡ «at») × (r .more ≡ true → r .left < c .left) ⌝ }
+{
+    let left = c.left;
+    let from = std::num::wrapping_add_usize(c.end, 1);
+    line_from(inp, n, from, at, left, good)
+}
+
+// ---- calls
+
+fn call_with(ask: Ask, time: u64) -> Line
+    ensures { λ r. ⌜ r ≡ turn.callWith ask time ⌝ }
+{
+    let frame = no_frame();
+    let asked = Asked { ask, frame };
+    Line {
+        asks: true,
+        asked,
+        time,
+    }
+}
+
+fn no_call() -> Line
+    ensures { λ r. ⌜ r ≡ turn.noCall ⌝ }
+{
+    let ask = Ask::Step { id: 0, time: 0 };
+    let frame = no_frame();
+    let asked = Asked { ask, frame };
+    Line {
+        asks: false,
+        asked,
+        time: 0,
+    }
+}
+
+// The call that an event is; name is the model that a registration names.
+fn line_of(event: Event, name: &[u8]) -> Line
+    ensures { λ r. ⌜ r ≡ turn.lineOf event (modelNamed (now (name .entry))) ⌝ }
+{
+    match event {
+        Event::Nothing => no_call(),
+        Event::Error(_) => no_call(),
+        Event::Fresh => no_call(),
+        Event::Register {
+            id,
+            host,
+            wait,
+            time,
+        } => {
+            let model = model_named(name);
+            call_with(
+                Ask::Register {
+                    id,
+                    host,
+                    model,
+                    wait,
+                    time,
+                },
+                time,
+            )
+        }
+        Event::Start { id, time, command } => call_with(Ask::Start { id, command, time }, time),
+        Event::Step { id, time } => call_with(Ask::Step { id, time }, time),
+        Event::Frame {
+            time,
+            id,
+            data,
+            extended,
+            dlc,
+            rx,
+        } => {
+            let frame = frame_of(id, data, extended, dlc, rx);
+            let ask = Ask::Frame { time };
+            let asked = Asked { ask, frame };
+            Line {
+                asks: true,
+                asked,
+                time,
+            }
+        }
+        Event::Look { id: _ } => no_call(),
+        Event::Remove { id, time } => call_with(Ask::Remove { id, time }, time),
+    }
+}
+
+// What the line at a cursor asks.
+fn asked_in(inp: &[u8], c: Cursor) -> Line
+    ensures { λ r. ⌜ r ≡ turn.askedIn (turn.lineAt (now (inp .entry)) (c .from) (c .end)) ⌝ }
+{
+    let line = line_in(inp, c);
+    let n = shown(line);
+    let cut = &line[..n];
+    line_of(event_of(cut), text::word(cut, 3))
+}
+
+// ---- answers
+
+// What stands in the buffer is written first where less than an answer's length is free.
+fn room_for(out: &[u8], c: Cursor) -> Room
+    ensures { λ r. ⌜ r .«at» ≡ turn.roomAt (c .«at») ⌝ }
+{
+    let at = c.at;
+    let good = c.good;
+    if ROOM < at {
+        return Room {
+            at: 0,
+            good: flush(out, at, good),
+        };
+    }
+    Room { at, good }
+}
+
+fn put_replied(replied: Replied, time: u64, out: &mut [u8], at: usize) -> usize
+    ensures { λ r. ⌜ Put (now (out .entry)) «at» (turn.repliedText replied time) (now (out .exit)) r ⌝ }
+{
+    let reply = replied.reply;
+    let frame = replied.frame;
+    let result = replied.result;
+    match reply {
+        Reply::Told(said) => put_told(said, out, at),
+        Reply::Moved(said) => put_said(said, frame, result, time, out, at),
+    }
+}
+
+// Puts a call's answer, and finds the next line.
+fn put_reply(
+    replied: Replied,
+    line: Line,
+    inp: &[u8],
+    n: usize,
+    out: &mut [u8],
+    c: Cursor,
+) -> Cursor
+    ensures { λ r. ⌜ Put (now (out .entry)) (turn.roomAt (c .«at»)) (turn.repliedText replied (line .time)) (now (out .exit)) (r .«at») × (r .more ≡ true → r .left < c .left) ⌝ }
+{
+    let room = room_for(out, c);
+    let p = put_replied(replied, line.time, out, room.at);
+    next_line(inp, n, c, p, room.good)
+}
+
+// The line at a cursor, the station by value.
+fn by_value(motors: [Motor; 8], inp: &[u8], n: usize, out: &mut [u8], c: Cursor) -> Taken
+    ensures { λ r. ⌜ (stationOf (r .motors) ≡ spec.stationAfterLine (stationOf motors) (turn.lineAt (now (inp .entry)) (c .from) (c .end))) × Put (now (out .entry)) (turn.roomAt (c .«at»)) (spec.textAfterLine (stationOf motors) (turn.lineAt (now (inp .entry)) (c .from) (c .end))) (now (out .exit)) (r .cursor .«at») × (r .cursor .more ≡ true → r .cursor .left < c .left) ⌝ }
+{
+    let room = room_for(out, c);
+    let st = Station { motors };
+    let went = on_line(st, line_in(inp, c), out, room.at);
+    let after = went.station;
+    let motors = after.motors;
+    let cursor = next_line(inp, n, c, went.at, room.good);
+    Taken { motors, cursor }
+}
+
+// The line at a cursor, answered on the lent station: the places at exit and the text are those of the by-value calls.
+pub(crate) fn take_line(
+    motors: &mut [Motor; 8],
+    inp: &[u8],
+    n: usize,
+    out: &mut [u8],
+    c: Cursor,
+) -> Cursor
+    ensures { λ r. ⌜ (stationOf (now (motors .exit)) ≡ spec.stationAfterLine (stationOf (now (motors .entry))) (turn.lineAt (now (inp .entry)) (c .from) (c .end))) × Put (now (out .entry)) (turn.roomAt (c .«at»)) (spec.textAfterLine (stationOf (now (motors .entry))) (turn.lineAt (now (inp .entry)) (c .from) (c .end))) (now (out .exit)) (r .«at») × (r .more ≡ true → r .left < c .left) ⌝ }
+{
+    let line = asked_in(inp, c);
+    if line.asks {
+        let replied = call(motors, line.asked);
+        return put_reply(replied, line, inp, n, out, c);
+    }
+    let taken = by_value(*motors, inp, n, out, c);
+    *motors = taken.motors;
+    taken.cursor
+}
+
+// The lines that end among the first n bytes.
+pub(crate) fn take_lines(motors: [Motor; 8], inp: &[u8], n: usize, out: &mut [u8]) -> Taken {
+    let mut motors = motors;
+    let mut cursor = first_line(inp, n);
+    while cursor.more {
+        cursor = take_line(&mut motors, inp, n, out, cursor);
+    }
+    Taken { motors, cursor }
+}

@@ -1,0 +1,46 @@
+-- Right because the count rises to its end; nothing is said of the station.
+use Prim.Native.Nat.{_-_, _≤_}
+use borrow.Author.Needs.{needs}
+use Rattle.station_abi.proofs.loaded.read_by_all.Statement.{statement}
+use Rattle.station_abi.proofs.loaded.read_by_all.Tie as tie
+
+abbrev Inv-loop : tie.InvT-loop
+Inv-loop motors parameter after₀ count₀ after count = count ≤ motors
+
+abbrev μ-loop : tie.MeasureT-loop
+μ-loop motors parameter after₀ count₀ after count = motors - count
+
+loop-holds : tie.Need-loop-holds Inv-loop μ-loop
+loop-holds c = search needs
+
+add-count : tie.Need-add-count Inv-loop μ-loop
+add-count c = search needs
+
+read-reply-requires : tie.Need-read-reply-requires Inv-loop μ-loop
+read-reply-requires c κs = search needs
+
+frame-requires : tie.Need-frame-requires Inv-loop μ-loop
+frame-requires c κs = search needs
+
+loop-less : tie.Need-loop-less Inv-loop μ-loop
+loop-less c = search needs
+
+loop-again : tie.Need-loop-again Inv-loop μ-loop
+loop-again c = search needs
+
+returns : tie.Need-returns Inv-loop μ-loop
+returns c = search needs
+
+pub read-by-all-spec : {M : Type 1} → statement M
+read-by-all-spec =
+    tie.close
+    (tie.spec
+    Inv-loop
+    μ-loop
+    loop-holds
+    add-count
+    read-reply-requires
+    frame-requires
+    loop-less
+    loop-again
+    returns)

@@ -1,0 +1,98 @@
+// Frames handed in round robin over the motors of a lent station.
+use crate::frames::frame_of;
+use crate::frames::motors_of;
+use crate::frames::next_id;
+use crate::frames::passed;
+use crate::loaded::last_parameter;
+use crate::loaded::loaded;
+use motor::motor::Motor;
+use station::lent::Ask;
+use station::lent::Asked;
+use station::lent::Replied;
+use station::lent::Reply;
+use station::lent::call;
+ghost use Prim.Native.Nat.{_+_, _≤_, _<_};
+
+// How many frames are left, how many were not refused, and what the next one is.
+pub struct Beat {
+    pub left: u64,
+    pub passed: u64,
+    pub kind: u64,
+    pub id: u16,
+    pub motors: u16,
+    pub parameter: u16,
+}
+
+// The call that hands in the next frame.
+fn asked_at(b: Beat) -> Asked {
+    Asked {
+        ask: Ask::Frame { time: 0 },
+        frame: frame_of(b.kind, b.id, b.parameter),
+    }
+}
+
+// 1 where a frame was not refused.
+fn passed_in(reply: Reply) -> u64
+    ensures { λ r. ⌜ r ≤ 1 ⌝ }
+{
+    match reply {
+        Reply::Told(said) => passed(said),
+        Reply::Moved(_) => 0,
+    }
+}
+
+// One frame less is left.
+fn next_beat(b: Beat, replied: Replied) -> Beat
+    ensures { λ r. ⌜ (0 < b .left → r .left < b .left) × (r .passed + r .left ≤ b .passed + b .left) ⌝ }
+{
+    if b.left == 0 {
+        return b;
+    }
+    if b.passed == 0xFFFF_FFFF_FFFF_FFFF {
+        return Beat { left: 0, ..b };
+    }
+    let reply = replied.reply;
+    Beat {
+        left: b.left - 1,
+        passed: b.passed + passed_in(reply),
+        kind: b.kind,
+        id: next_id(b.id, b.motors),
+        motors: b.motors,
+        parameter: b.parameter,
+    }
+}
+
+// Frames until none is left.
+fn beats(motors: [Motor; 8], b: Beat) -> Beat
+    ensures { λ r. ⌜ r .passed + r .left ≤ b .passed + b .left ⌝ }
+{
+    let mut motors = motors;
+    let mut b = b;
+    while 0 < b.left {
+        let asked = asked_at(b);
+        let replied = call(&mut motors, asked);
+        b = next_beat(b, replied);
+    }
+    b
+}
+
+// As frames_by_value, with the motors lent to each call.
+#[no_mangle]
+pub extern "C" fn frames_in_place(motors: u64, held: u64, kind: u64, times: u64) -> u64
+    ensures { λ r. ⌜ r ≤ times ⌝ }
+{
+    let motors = motors_of(motors);
+    let parameter = last_parameter(held);
+    let st = loaded(motors, held);
+    let places = st.motors;
+    let b = Beat {
+        left: times,
+        passed: 0,
+        kind,
+        id: 1,
+        motors,
+        parameter,
+    };
+    let after = beats(places, b);
+    after.passed
+}

@@ -1,0 +1,68 @@
+// Frames handed in round robin over the motors.
+use crate::loaded::last_parameter;
+use crate::loaded::loaded;
+use crate::loaded::read_reply;
+use crate::loaded::status_frame;
+use codec::bus::CanFrame;
+use codec::error::Checked;
+use station::station::frame;
+ghost use Prim.Native.Nat.{_≤_};
+
+// How many motors there are: at most 8.
+pub(crate) fn motors_of(motors: u64) -> u16
+    ensures { λ r. ⌜ r ≤ 8 ⌝ }
+{
+    if 8 < motors {
+        return 8;
+    }
+    motors as u16
+}
+
+// The motor after this one, round robin.
+pub(crate) fn next_id(id: u16, motors: u16) -> u16 {
+    if id < motors {
+        return id + 1;
+    }
+    1
+}
+
+// Kind 0 is a status frame, any other a read reply.
+pub(crate) fn frame_of(kind: u64, id: u16, parameter: u16) -> CanFrame {
+    if kind == 0 {
+        return status_frame(id);
+    }
+    read_reply(id, parameter)
+}
+
+// 1 where nothing was refused.
+pub(crate) fn passed(said: Checked) -> u64
+    ensures { λ r. ⌜ r ≤ 1 ⌝ }
+{
+    match said {
+        Checked::Passed => 1,
+        Checked::Refused(_) => 0,
+    }
+}
+
+// Hands in `times` frames, the station by value, and answers how many were not refused. There are up to 8 motors, which hold `held`
+// readings each. Read replies are for the largest parameter held, or where none is held for the first.
+#[no_mangle]
+pub extern "C" fn frames_by_value(motors: u64, held: u64, kind: u64, times: u64) -> u64
+    ensures { λ r. ⌜ r ≤ times ⌝ }
+{
+    let motors = motors_of(motors);
+    let parameter = last_parameter(held);
+    let mut st = loaded(motors, held);
+    let mut id: u16 = 1;
+    let mut taken: u64 = 0;
+    let mut count: u64 = 0;
+    while count < times {
+        let told = frame(st, frame_of(kind, id, parameter), 0);
+        let said = told.said;
+        st = told.station;
+        taken += passed(said);
+        id = next_id(id, motors);
+        count += 1;
+    }
+    taken
+}

@@ -1,0 +1,90 @@
+// Frames, and stations to begin with: motors registered, and readings held by each.
+use codec::bus::CanFrame;
+use codec::protocol::CommunicationType;
+use codec::protocol::build_ext_id;
+use station::station::Station;
+use station::station::frame;
+use station::station::new;
+use station::station::register;
+ghost use Prim.Native.Nat.{_≤_};
+
+const HOST: u8 = 0xFD;
+
+// The first parameter held; the others follow it.
+const FIRST: u16 = 0x3000;
+
+// The most readings that a motor holds.
+const READINGS: u16 = 96;
+
+// A frame of motor `id` to the host.
+fn frame_from(id: u16, comm_type: u32, data: [u8; 8]) -> CanFrame {
+    CanFrame {
+        arbitration_id: build_ext_id(comm_type, id, HOST),
+        data,
+        dlc: 8,
+        is_extended: true,
+        is_rx: true,
+    }
+}
+
+// A status frame: at rest, 25 degrees.
+pub(crate) fn status_frame(id: u16) -> CanFrame {
+    let data = [0x7F, 0xFF, 0x7F, 0xFF, 0x7F, 0xFF, 0, 0xFA];
+    frame_from(id, CommunicationType::OPERATION_STATUS, data)
+}
+
+// A read reply: the value is 0.
+pub(crate) fn read_reply(id: u16, parameter: u16) -> CanFrame {
+    let low = (parameter % 256) as u8;
+    let high = (parameter / 256) as u8;
+    let data = [low, high, 0, 0, 0, 0, 0, 0];
+    frame_from(id, CommunicationType::READ_PARAMETER, data)
+}
+
+// The largest parameter held where so many are, and the first where none is.
+pub(crate) fn last_parameter(held: u64) -> u16
+    ensures { λ r. ⌜ r ≤ 12383 ⌝ }
+{
+    if held == 0 {
+        return FIRST;
+    }
+    if (READINGS as u64) < held {
+        return FIRST + READINGS - 1;
+    }
+    FIRST + (held as u16) - 1
+}
+
+// A station with the motors 1, 2, ..
+fn registered(motors: u16) -> Station {
+    let mut st = new();
+    let mut count: u16 = 0;
+    while count < motors {
+        count += 1;
+        let told = register(st, count, HOST as u16, b"rs-00", 0, 0);
+        st = told.station;
+    }
+    st
+}
+
+// The station after a reply of every motor for one parameter.
+fn read_by_all(st: Station, motors: u16, parameter: u16) -> Station {
+    let mut after = st;
+    let mut count: u16 = 0;
+    while count < motors {
+        count += 1;
+        let told = frame(after, read_reply(count, parameter), 0);
+        after = told.station;
+    }
+    after
+}
+
+// A station whose motors hold so many readings each.
+pub(crate) fn loaded(motors: u16, held: u64) -> Station {
+    let mut st = registered(motors);
+    let mut count: u64 = 0;
+    while count < held {
+        count += 1;
+        st = read_by_all(st, motors, last_parameter(count));
+    }
+    st
+}
