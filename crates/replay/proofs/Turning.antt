@@ -8,7 +8,7 @@ use Rattle.session.specs.declared.event.Event.{Event}
 use Rattle.session.specs.declared.event.Event.the-variants as event
 use Rattle.session.specs.Lines.{eventOf}
 use Rattle.station.specs.declared.station.Station.{Station}
-use Rattle.station.specs.Lent.{replyIn, stationIn}
+use Rattle.lent.specs.Lent.{replyIn, stationIn}
 use Rattle.text.specs.Words.{wordAt}
 use Rattle.replay.specs.Events.{stationAfter, textAfter, shown, stationAfterLine, textAfterLine}
 use Rattle.replay.specs.Turns.{lineOf, askedIn, repliedText}

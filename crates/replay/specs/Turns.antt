@@ -10,11 +10,11 @@ use Rattle.engine.specs.Requests.{noFrame}
 use Rattle.session.specs.declared.event.Event.{Event}
 use Rattle.session.specs.declared.event.Event.the-variants as event
 use Rattle.session.specs.Lines.{eventOf}
-use Rattle.station.specs.declared.lent.Ask.{Ask}
-use Rattle.station.specs.declared.lent.Ask.the-variants as ask
-use Rattle.station.specs.declared.lent.Reply.{Reply}
-use Rattle.station.specs.declared.lent.Reply.the-variants as reply
-use Rattle.station.specs.declared.lent.Replied.{Replied}
+use Rattle.lent.specs.declared.call.Ask.{Ask}
+use Rattle.lent.specs.declared.call.Ask.the-variants as ask
+use Rattle.lent.specs.declared.call.Reply.{Reply}
+use Rattle.lent.specs.declared.call.Reply.the-variants as reply
+use Rattle.lent.specs.declared.call.Replied.{Replied}
 use Rattle.answers.specs.Said.{toldText, saidText}
 use Rattle.text.specs.Words.{wordAt}
 use Rattle.replay.specs.declared.turns.Line.{Line}

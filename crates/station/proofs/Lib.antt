@@ -21,9 +21,3 @@ pub mod Definitions
 pub mod EchoAtStation
 pub mod HeldReadings
 pub mod Demand2
-pub mod IdIndex
-pub mod Lending
-pub mod Lenses
-pub mod CallWalk
-pub mod Local
-pub mod Structs

@@ -6,4 +6,3 @@ pub mod Demands
 pub mod Examples
 pub mod Definitions
 pub mod Demand2
-pub mod Lent

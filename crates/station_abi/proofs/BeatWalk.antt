@@ -35,7 +35,7 @@ use denote.Triple.Clauses.{Ended, Clauses, closing, Lasts, lasts, atExit}
 use denote.Triple.Walked.{Stays, stay-none, walkOf, AllGo, goes-none, ends-at, walked, walk-meets}
 use denote.Exit.{yes}
 use Rattle.motor.proofs.ThinWalk.{Held, row, still, Known, beside}
-use Rattle.station.proofs.Local.{env-of, locals-at, no-more-said, cell, lent-ref, lenders, lends-local, local-back}
+use Rattle.lent.proofs.Local.{env-of, locals-at, no-more-said, cell, lent-ref, lenders, lends-local, local-back}
 
 -- ---- the loop
 

@@ -6,11 +6,11 @@ use crate::frames::passed;
 use crate::loaded::last_parameter;
 use crate::loaded::loaded;
 use motor::motor::Motor;
-use station::lent::Ask;
-use station::lent::Asked;
-use station::lent::Replied;
-use station::lent::Reply;
-use station::lent::call;
+use lent::call::Ask;
+use lent::call::Asked;
+use lent::call::Replied;
+use lent::call::Reply;
+use lent::call::call;
 ghost use Prim.Native.Nat.{_+_, _≤_, _<_};
 
 // How many frames are left, how many were not refused, and what the next one is.

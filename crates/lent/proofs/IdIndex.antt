@@ -1,0 +1,32 @@
+-- The place of an id among the places' ids: a search passes over the others, stops at it, or ends. Assumes nothing.
+use Prim.Native.Nat.{ℕ, zero, suc, _+_, _<_}
+use mathlib.Core.Path.{_≡_, refl}
+use mathlib.Core.List.{List, [], _∷_}
+use native.Mathlib.Nat.{le-of-suc-le-suc, not-suc-le-zero}
+use native.Mathlib.Numerals.{add-one}
+use native.Mathlib.Omega.{arith}
+use lib.ListN.{length, getD, drop}
+use Rattle.lent.specs.Lent.{indexIn}
+use Rattle.station.proofs.Index.{not-same}
+use Rattle.station.proofs.Places.{own-id}
+
+-- an id that is passed over
+pub past : (xs : List ℕ) (i m d : ℕ) → i < length xs → (getD xs i d ≡ m → ⊥) → i + indexIn (drop i xs) m ≡ i + 1 + indexIn (drop (i + 1) xs) m
+unfolding indexIn
+past xs i m d h e = rw add-one (go xs i h e)
+  where
+    go : (xs : List ℕ) (i : ℕ) → i < length xs → (getD xs i d ≡ m → ⊥) → i + indexIn (drop i xs) m ≡ suc i + indexIn (drop (suc i) xs) m
+    go [] i h e = absurd (not-suc-le-zero h)
+    go (x ∷ xs) zero h e = rw (not-same x m e) (omega arith)
+    go (x ∷ xs) (suc i) h e = omega (arith, go xs i (le-of-suc-le-suc h) e)
+
+pub hit : (xs : List ℕ) (i m d : ℕ) → i < length xs → getD xs i d ≡ m → indexIn (drop i xs) m ≡ 0
+unfolding indexIn
+hit [] i m d h e = absurd (not-suc-le-zero h)
+hit (x ∷ xs) zero m d h e = rw (e, own-id m)
+hit (x ∷ xs) (suc i) m d h e = hit xs i m d (le-of-suc-le-suc h) e
+
+pub at-end : (xs : List ℕ) (m : ℕ) → indexIn (drop (length xs) xs) m ≡ 0
+unfolding indexIn
+at-end [] m = refl
+at-end (x ∷ xs) m = at-end xs m

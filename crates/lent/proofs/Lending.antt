@@ -1,0 +1,259 @@
+-- A call on a lent station: where it goes and what it leaves there, put together, is the by-value call. Assumes nothing.
+use Prim.Native.Nat.{ℕ}
+use native.Mathlib.Omega.{arith}
+use mathlib.Core.Path.{_≡_, refl, sym, ap, _∙_}
+use mathlib.Core.Bool.{Bool, true, false, cond, not, true≢false}
+use mathlib.Core.List.{List, [], _∷_}
+use borrow.Author.Tests.{not-true}
+use lib.Dec.{ltb}
+use lib.ListN.{length, getD, set}
+use lib.Seq.{set-getD}
+use Rattle.codec.specs.declared.bus.CanFrame.{CanFrame}
+use Rattle.codec.specs.declared.error.Checked.{Checked}
+use Rattle.codec.specs.declared.error.Checked.the-variants as checked
+use Rattle.codec.specs.declared.error.Refusal.{Refusal}
+use Rattle.codec.specs.declared.error.Refusal.the-variants as refusal
+use Rattle.codec.specs.declared.model.Model.{Model}
+use Rattle.codec.specs.declared.model.ModelNamed.{ModelNamed}
+use Rattle.codec.specs.declared.model.ModelNamed.the-variants as named
+use Rattle.engine.specs.declared.command.Command.{Command}
+use Rattle.motor.specs.declared.motor.Motor.{Motor}
+use Rattle.motor.specs.declared.registration.Admission.{Admission}
+use Rattle.motor.specs.declared.registration.Admission.the-variants as admission
+use Rattle.motor.specs.Calls.{registerNumbers, registeredBy, registrationOf}
+use Rattle.motor.specs.Motors.{newMotor, startOf, stepOf, removalOf}
+use Rattle.motor.specs.Numbers.{firstOf}
+use Rattle.motor.specs.Receive.{accepts, isRead, heardOf}
+use Rattle.motor.proofs.Receiving.{heard-quiet}
+use Rattle.lent.specs.declared.call.Ask.{Ask}
+use Rattle.lent.specs.declared.call.Ask.the-variants as ask
+use Rattle.lent.specs.declared.call.Asked.{Asked}
+use Rattle.lent.specs.declared.call.Replied.{Replied}
+use Rattle.lent.specs.declared.route.Route.{Route}
+use Rattle.station.specs.declared.station.Station.{Station}
+use Rattle.station.specs.Station.{source}
+use Rattle.station.specs.Stations.{freeMotor, indexOf, takenPlace, motorAt, withMotor, atPlace, movedAt, unmoved, enteredIn, admittedIn, registerBy, registerIn, startIn, stepIn, frameIn, removeIn}
+use Rattle.station.specs.Stations as stations
+use Rattle.lent.specs.Lent.{told, moved, removedAt, repliedTo, stationAt, replyIn, stationIn, idsOf, indexIn, takenIn, routeAt, nowhere, routeTo, routeFree, routeNew, routeFrame, routeBy, routeOf, visitedBy, visitedOf, keptBy, keptOf}
+
+-- ---- the ids are those of the places
+
+same-index : (ms : List Motor) (id : ℕ) → length ms ≡ 8 → indexIn (idsOf ms) id ≡ indexOf ms id
+unfolding indexIn indexOf
+same-index (a ∷ b ∷ c ∷ d ∷ e ∷ f ∷ g ∷ h ∷ []) id n = refl
+same-index [] id n = absurd (omega arith)
+same-index (a ∷ []) id n = absurd (omega arith)
+same-index (a ∷ b ∷ []) id n = absurd (omega arith)
+same-index (a ∷ b ∷ c ∷ []) id n = absurd (omega arith)
+same-index (a ∷ b ∷ c ∷ d ∷ []) id n = absurd (omega arith)
+same-index (a ∷ b ∷ c ∷ d ∷ e ∷ []) id n = absurd (omega arith)
+same-index (a ∷ b ∷ c ∷ d ∷ e ∷ f ∷ []) id n = absurd (omega arith)
+same-index (a ∷ b ∷ c ∷ d ∷ e ∷ f ∷ g ∷ []) id n = absurd (omega arith)
+same-index (a ∷ b ∷ c ∷ d ∷ e ∷ f ∷ g ∷ h ∷ i ∷ ms) id n = absurd (omega arith)
+
+same-place : (ms : List Motor) (id : ℕ) → length ms ≡ 8 → takenIn (idsOf ms) id ≡ takenPlace ms id
+unfolding takenIn takenPlace
+same-place ms id n = rw (same-index ms id n)
+
+-- a station with a place left as it was is the same station
+same-station : (st : Station) (i : ℕ) → withMotor st i (motorAt st i) ≡ st
+same-station st i = ap (λ (ms : List Motor). record { motors = ms }) (set-getD (st .motors) i freeMotor)
+
+-- ---- each call at its place
+
+-- a call that goes this way gives this reply and this station
+abbrev Done : Station → Route → Ask → CanFrame → Replied → Station → Type 0
+Done st r k f reply after =
+    (visitedBy (r .said) (motorAt st (r .«at»)) (record { ask = k; frame = f }) .replied ≡ reply)
+    × (withMotor st (r .«at») (visitedBy (r .said) (motorAt st (r .«at»)) (record { ask = k; frame = f }) .motor) ≡ after)
+
+module _ (st : Station) (f : CanFrame) where
+  abbrev taken : ℕ → ℕ
+  taken id = takenPlace (st .motors) id
+
+  -- a removal that is refused leaves the motor
+  removed-done : (k : Checked) (i : ℕ)
+      → (removedAt (motorAt st i) k .replied ≡ told (stations.removedAt k st i .said))
+      × (withMotor st i (removedAt (motorAt st i) k .motor) ≡ stations.removedAt k st i .station)
+  removed-done checked.Passed i = (refl, refl)
+  removed-done (checked.Refused r) i = (refl, same-station st i)
+
+  -- 5 and 4
+  free-done : (id host : ℕ) (model : Model) (wait time : ℕ) (b d : Bool) (i : ℕ)
+      → let r = cond b (nowhere refusal.IdRegistered) (cond d (routeAt i false) (nowhere refusal.StationFull)) in
+      let t =
+      cond b (stations.told st (checked.Refused refusal.IdRegistered))
+      (cond d (stations.told (withMotor st i (newMotor id host model wait time)) checked.Passed) (stations.told st (checked.Refused refusal.StationFull)))
+      in
+      Done st r (ask.Register id host (named.Known model) wait time) f (told (t .said)) (t .station)
+  free-done id host model wait time true d i = (refl, same-station st 0)
+  free-done id host model wait time false true i = (refl, refl)
+  free-done id host model wait time false false i = (refl, same-station st 0)
+
+  module _ (eight : length (st .motors) ≡ 8) where
+    abbrev ids : List ℕ
+    ids = idsOf (st .motors)
+
+    start-done : (id : ℕ) (c : Command) (time : ℕ)
+        → Done st (routeTo ids id refusal.IdNotRegistered false) (ask.Start id c time) f (moved (startIn st id c time)) (startIn st id c time .station)
+    unfolding routeTo startIn atPlace
+    start-done id c time = rw (same-place (st .motors) id eight) (go (ltb (taken id) 8))
+      where
+        go : (b : Bool)
+            → let m = cond b (movedAt st (taken id) (startOf (motorAt st (taken id)) c time)) (unmoved st) in
+            Done st (cond b (routeAt (taken id) false) (nowhere refusal.IdNotRegistered)) (ask.Start id c time) f (moved m) (m .station)
+        go true = (refl, refl)
+        go false = (refl, same-station st 0)
+
+    step-done : (id time : ℕ)
+        → Done st (routeTo ids id refusal.IdNotRegistered false) (ask.Step id time) f (moved (stepIn st id time)) (stepIn st id time .station)
+    unfolding routeTo stepIn atPlace
+    step-done id time = rw (same-place (st .motors) id eight) (go (ltb (taken id) 8))
+      where
+        go : (b : Bool)
+            → let m = cond b (movedAt st (taken id) (stepOf (motorAt st (taken id)) time)) (unmoved st) in
+            Done st (cond b (routeAt (taken id) false) (nowhere refusal.IdNotRegistered)) (ask.Step id time) f (moved m) (m .station)
+        go true = (refl, refl)
+        go false = (refl, same-station st 0)
+
+    remove-done : (id time : ℕ)
+        → Done st (routeTo ids id refusal.IdNotRegistered false) (ask.Remove id time) f (told (removeIn st id time .said)) (removeIn st id time .station)
+    unfolding routeTo removeIn atPlace
+    remove-done id time = rw (same-place (st .motors) id eight) (go (ltb (taken id) 8))
+      where
+        go : (b : Bool)
+            → let t =
+            cond b (stations.removedAt (removalOf (motorAt st (taken id)) time) st (taken id))
+            (stations.told st (checked.Refused refusal.IdNotRegistered))
+            in
+            Done st (cond b (routeAt (taken id) false) (nowhere refusal.IdNotRegistered)) (ask.Remove id time) f (told (t .said)) (t .station)
+        go true = removed-done (removalOf (motorAt st (taken id)) time) (taken id)
+        go false = (refl, same-station st 0)
+
+    frame-done : (time : ℕ) → Done st (routeFrame ids f) (ask.Frame time) f (told (frameIn st f time .said)) (frameIn st f time .station)
+    unfolding routeFrame routeTo frameIn atPlace
+    frame-done time = rw (same-place (st .motors) (source f) eight) (go (accepts (source f) f) (ltb (taken (source f)) 8))
+      where
+        go : (a b : Bool)
+            → let i = taken (source f) in
+            let other = stations.told st (checked.Refused refusal.FrameNotAccepted) in
+            let t = cond a (cond b (stations.heardAt st i (heardOf (motorAt st i) f time)) other) other in
+            let r = cond a (cond b (routeAt i (not (isRead f))) (nowhere refusal.FrameNotAccepted)) (nowhere refusal.FrameNotAccepted) in
+            Done st r (ask.Frame time) f (told (t .said)) (t .station)
+        go true true = (refl, refl)
+        go true false = (refl, same-station st 0)
+        go false b = (refl, same-station st 0)
+
+    admitted-done : (id host : ℕ) (model : Model) (wait time : ℕ)
+        → let t = admittedIn st id host model wait time in
+        Done st (routeFree ids id) (ask.Register id host (named.Known model) wait time) f (told (t .said)) (t .station)
+    unfolding routeFree admittedIn enteredIn atPlace
+    admitted-done id host model wait time =
+        rw (same-place (st .motors) id eight, same-index (st .motors) 0 eight)
+        (free-done id host model wait time (ltb (taken id) 8) (ltb (indexOf (st .motors) 0) 8) (indexOf (st .motors) 0))
+
+    register-done : (id host : ℕ) (model : ModelNamed) (wait time : ℕ)
+        → let t = registerIn st id host model wait time in
+        Done st (routeNew ids id (registrationOf id host model wait time)) (ask.Register id host model wait time) f (told (t .said)) (t .station)
+    unfolding registerIn
+    register-done id host model wait time = go (firstOf (registerNumbers id host model wait time)) model
+      where
+        go : (k : Checked) (model : ModelNamed)
+            → let t = registerBy (registeredBy k model) st id host wait time in
+            Done st (routeNew ids id (registeredBy k model)) (ask.Register id host model wait time) f (told (t .said)) (t .station)
+        go checked.Passed (named.Known m) = admitted-done id host m wait time
+        go checked.Passed named.Unknown = (refl, same-station st 0)
+        go (checked.Refused r) model = (refl, same-station st 0)
+
+    done : (k : Ask) → Done st (routeBy ids k f) k f (repliedTo st k f) (stationAt st k f)
+    done (ask.Register id host model wait time) = register-done id host model wait time
+    done (ask.Start id c time) = start-done id c time
+    done (ask.Step id time) = step-done id time
+    done (ask.Frame time) = frame-done time
+    done (ask.Remove id time) = remove-done id time
+
+-- ---- a quiet call leaves the readings
+
+-- a call that goes this way and is quiet
+abbrev Quiet : Route → Ask → CanFrame → Type 0
+Quiet r k f =
+    r .quiet ≡ true
+    → (m : Motor)
+    → let a : Asked = record { ask = k; frame = f } in
+    (keptBy (r .said) (m .state) a .replied ≡ visitedBy (r .said) m a .replied)
+    × (_≡_ {A = Motor} (record { state = keptBy (r .said) (m .state) a .state; readings = m .readings }) (visitedBy (r .said) m a .motor))
+
+module _ (f : CanFrame) (ids : List ℕ) where
+  quiet-nowhere : (k : Ask) (r : Refusal) → Quiet (nowhere r) k f
+  quiet-nowhere k r q m = (refl, refl)
+
+  loud-at : (k : Ask) (i : ℕ) → Quiet (routeAt i false) k f
+  loud-at k i q m = absurd (true≢false (sym q))
+
+  frame-at : (time i : ℕ) → Quiet (routeAt i (not (isRead f))) (ask.Frame time) f
+  frame-at time i q m = rw (heard-quiet m f time (not-true (isRead f) q)) (refl, refl)
+
+  loud-to : (k : Ask) (id : ℕ) (r : Refusal) → Quiet (routeTo ids id r false) k f
+  unfolding routeTo
+  loud-to k id r = go (ltb (takenIn ids id) 8)
+    where
+      go : (b : Bool) → Quiet (cond b (routeAt (takenIn ids id) false) (nowhere r)) k f
+      go true = loud-at k (takenIn ids id)
+      go false = quiet-nowhere k r
+
+  quiet-frame : (time : ℕ) → Quiet (routeFrame ids f) (ask.Frame time) f
+  unfolding routeFrame routeTo
+  quiet-frame time = go (accepts (source f) f) (ltb (takenIn ids (source f)) 8)
+    where
+      go : (a b : Bool)
+          → let none = nowhere refusal.FrameNotAccepted in
+          Quiet (cond a (cond b (routeAt (takenIn ids (source f)) (not (isRead f))) none) none) (ask.Frame time) f
+      go true true = frame-at time (takenIn ids (source f))
+      go true false = quiet-nowhere (ask.Frame time) refusal.FrameNotAccepted
+      go false b = quiet-nowhere (ask.Frame time) refusal.FrameNotAccepted
+
+  quiet-free : (k : Ask) (id : ℕ) → Quiet (routeFree ids id) k f
+  unfolding routeFree
+  quiet-free k id = go (ltb (takenIn ids id) 8) (ltb (indexIn ids 0) 8)
+    where
+      go : (b d : Bool)
+          → Quiet (cond b (nowhere refusal.IdRegistered) (cond d (routeAt (indexIn ids 0) false) (nowhere refusal.StationFull))) k f
+      go true d = quiet-nowhere k refusal.IdRegistered
+      go false true = loud-at k (indexIn ids 0)
+      go false false = quiet-nowhere k refusal.StationFull
+
+  quiet-new : (k : Ask) (id : ℕ) (n : Admission) → Quiet (routeNew ids id n) k f
+  quiet-new k id (admission.Admitted model) = quiet-free k id
+  quiet-new k id (admission.Refused r) = quiet-nowhere k r
+
+  quiets : (k : Ask) → Quiet (routeBy ids k f) k f
+  quiets (ask.Register id host model wait time) = quiet-new (ask.Register id host model wait time) id (registrationOf id host model wait time)
+  quiets (ask.Start id c time) = loud-to (ask.Start id c time) id refusal.IdNotRegistered
+  quiets (ask.Step id time) = loud-to (ask.Step id time) id refusal.IdNotRegistered
+  quiets (ask.Frame time) = quiet-frame time
+  quiets (ask.Remove id time) = loud-to (ask.Remove id time) id refusal.IdNotRegistered
+
+-- ---- the by-value call
+
+module _ (st : Station) (eight : length (st .motors) ≡ 8) (a : Asked) (r : Route) (e : r ≡ routeOf (idsOf (st .motors)) a) where
+  pub full : (visitedOf (getD (st .motors) (r .«at») freeMotor) a r .replied ≡ replyIn st a)
+      × (_≡_ {A = Station} (record { motors = set (st .motors) (r .«at») (visitedOf (getD (st .motors) (r .«at») freeMotor) a r .motor) }) (stationIn st a))
+  unfolding visitedOf replyIn stationIn routeOf
+  full = rw e (done st (a .frame) eight (a .ask))
+
+  same-kept : r .quiet ≡ true
+      → (keptOf (motorAt st (r .«at») .state) a r .replied ≡ visitedOf (motorAt st (r .«at»)) a r .replied)
+      × (_≡_ {A = Motor} (record { state = keptOf (motorAt st (r .«at») .state) a r .state; readings = motorAt st (r .«at») .readings }) (visitedOf (motorAt st (r .«at»)) a r .motor))
+  unfolding visitedOf keptOf routeOf
+  same-kept = rw e (λ q. quiets (a .frame) (idsOf (st .motors)) (a .ask) q (motorAt st (routeOf (idsOf (st .motors)) a .«at»)))
+
+  pub quiet : r .quiet ≡ true
+      → (keptOf (getD (st .motors) (r .«at») freeMotor .state) a r .replied ≡ replyIn st a)
+      × (_≡_ {A = Station}
+      (record {
+        motors =
+            set (st .motors) (r .«at»)
+            (record { state = keptOf (getD (st .motors) (r .«at») freeMotor .state) a r .state; readings = getD (st .motors) (r .«at») freeMotor .readings });
+      })
+      (stationIn st a))
+  quiet q = (same-kept q .0 ∙ full .0, ap (λ (m : Motor). withMotor st (r .«at») m) (same-kept q .1) ∙ full .1)

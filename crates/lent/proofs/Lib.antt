@@ -1,0 +1,6 @@
+pub mod IdIndex
+pub mod Lending
+pub mod Lenses
+pub mod CallWalk
+pub mod Local
+pub mod Structs
