@@ -2,5 +2,6 @@ pub mod IdIndex
 pub mod Lending
 pub mod Lenses
 pub mod CallWalk
+pub mod Frees
 pub mod Local
 pub mod Structs

@@ -1,7 +1,6 @@
 // Where a call on a lent station goes.
 use crate::call::Ask;
 use crate::call::Asked;
-use station::station::source_of;
 use codec::bus::CanFrame;
 use codec::error::Checked;
 use codec::error::Refusal;
@@ -9,6 +8,7 @@ use motor::receive::accepts_frame;
 use motor::receive::is_read;
 use motor::registration::Admission;
 use motor::registration::registration_of;
+use station::station::source_of;
 ghost use mathlib.Core.Path.{_≡_};
 ghost use Prim.Native.Nat.{_<_};
 ghost use Rattle.lent.specs.Lent as spec;

@@ -3,7 +3,6 @@ use crate::call::Ask;
 use crate::call::Asked;
 use crate::call::Replied;
 use crate::call::Reply;
-use station::place::free_motor;
 use crate::route::Route;
 use codec::error::Checked;
 use codec::error::Refusal;
@@ -18,6 +17,7 @@ use motor::quiet::StateHeard;
 use motor::quiet::hear_state;
 use motor::receive::Heard;
 use motor::receive::process_feedback_frame;
+use station::place::free_motor;
 ghost use mathlib.Core.Path.{_≡_};
 ghost use Rattle.lent.specs.Lent as spec;
 
