@@ -14,6 +14,7 @@ pub mod LoneOperating
 pub mod InTime
 pub mod FirstOf
 pub mod Receiving
+pub mod Editing
 pub mod LoneReceiving
 pub mod ReceivingTheorems
 pub mod FeedbackFinite

@@ -1,6 +1,7 @@
 pub mod Readings
 pub mod Numbers
 pub mod Receive
+pub mod Edits
 pub mod Calls
 pub mod Lone
 pub mod Motors

@@ -76,7 +76,7 @@ pub fn empty() -> Readings
 }
 
 // The last record, 0 for the head, before the place of id.
-fn seek(rs: Readings, id: u16) -> u16
+pub(crate) fn seek(rs: Readings, id: u16) -> u16
     ensures { λ r. ⌜ (r ≤ 96) × (r ≡ seekFrom 96 (rs .records) id 0) ⌝ }
 {
     let mut p: u16 = 0;

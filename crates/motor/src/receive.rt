@@ -196,7 +196,7 @@ pub fn is_read(frame: CanFrame) -> bool
 }
 
 // The status of a read reply: the extra field's high byte.
-fn read_status(frame: CanFrame) -> u8
+pub(crate) fn read_status(frame: CanFrame) -> u8
     ensures { λ r. ⌜ r ≡ readStatus frame ⌝ }
 {
     (extra_of(frame) >> 8) as u8
@@ -210,7 +210,7 @@ fn join_low_first(low: u8, high: u8) -> u16
 }
 
 // The parameter of a read reply.
-fn read_id(frame: CanFrame) -> u16
+pub(crate) fn read_id(frame: CanFrame) -> u16
     ensures { λ r. ⌜ r ≡ readId frame ⌝ }
 {
     let data = frame.data;
@@ -218,7 +218,7 @@ fn read_id(frame: CanFrame) -> u16
 }
 
 // What a read reply gives to be held.
-fn read_stored(frame: CanFrame) -> Stored
+pub(crate) fn read_stored(frame: CanFrame) -> Stored
     ensures { λ r. ⌜ r ≡ readStored frame ⌝ }
 {
     let data = frame.data;
