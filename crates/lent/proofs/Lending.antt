@@ -25,6 +25,7 @@ use Rattle.motor.specs.Motors.{newMotor, startOf, stepOf, removalOf}
 use Rattle.motor.specs.Numbers.{firstOf}
 use Rattle.motor.specs.Receive.{accepts, isRead, heardOf}
 use Rattle.motor.proofs.Receiving.{heard-quiet}
+use Rattle.motor.proofs.Editing.{heard-read}
 use Rattle.lent.specs.declared.call.Ask.{Ask}
 use Rattle.lent.specs.declared.call.Ask.the-variants as ask
 use Rattle.lent.specs.declared.call.Asked.{Asked}
@@ -34,7 +35,7 @@ use Rattle.station.specs.declared.station.Station.{Station}
 use Rattle.station.specs.Station.{source}
 use Rattle.station.specs.Stations.{freeMotor, indexOf, takenPlace, motorAt, withMotor, atPlace, movedAt, unmoved, enteredIn, admittedIn, registerBy, registerIn, startIn, stepIn, frameIn, removeIn}
 use Rattle.station.specs.Stations as stations
-use Rattle.lent.specs.Lent.{told, moved, removedAt, repliedTo, stationAt, replyIn, stationIn, idsOf, indexIn, takenIn, routeAt, nowhere, routeTo, routeFree, routeNew, routeFrame, routeBy, routeOf, visitedBy, visitedOf, keptBy, keptOf}
+use Rattle.lent.specs.Lent.{told, moved, removedAt, repliedTo, stationAt, replyIn, stationIn, idsOf, indexIn, takenIn, routeAt, nowhere, routeTo, routeFree, routeNew, routeFrame, routeBy, routeOf, visitedBy, visitedOf, keptBy, keptOf, editedOf, editedMotor}
 
 -- ---- the ids are those of the places
 
@@ -80,7 +81,7 @@ module _ (st : Station) (f : CanFrame) where
 
   -- 5 and 4
   free-done : (id host : ℕ) (model : Model) (wait time : ℕ) (b d : Bool) (i : ℕ)
-      → let r = cond b (nowhere refusal.IdRegistered) (cond d (routeAt i false) (nowhere refusal.StationFull)) in
+      → let r = cond b (nowhere refusal.IdRegistered) (cond d (routeAt i false false) (nowhere refusal.StationFull)) in
       let t =
       cond b (stations.told st (checked.Refused refusal.IdRegistered))
       (cond d (stations.told (withMotor st i (newMotor id host model wait time)) checked.Passed) (stations.told st (checked.Refused refusal.StationFull)))
@@ -95,29 +96,29 @@ module _ (st : Station) (f : CanFrame) where
     ids = idsOf (st .motors)
 
     start-done : (id : ℕ) (c : Command) (time : ℕ)
-        → Done st (routeTo ids id refusal.IdNotRegistered false) (ask.Start id c time) f (moved (startIn st id c time)) (startIn st id c time .station)
+        → Done st (routeTo ids id refusal.IdNotRegistered false false) (ask.Start id c time) f (moved (startIn st id c time)) (startIn st id c time .station)
     unfolding routeTo startIn atPlace
     start-done id c time = rw (same-place (st .motors) id eight) (go (ltb (taken id) 8))
       where
         go : (b : Bool)
             → let m = cond b (movedAt st (taken id) (startOf (motorAt st (taken id)) c time)) (unmoved st) in
-            Done st (cond b (routeAt (taken id) false) (nowhere refusal.IdNotRegistered)) (ask.Start id c time) f (moved m) (m .station)
+            Done st (cond b (routeAt (taken id) false false) (nowhere refusal.IdNotRegistered)) (ask.Start id c time) f (moved m) (m .station)
         go true = (refl, refl)
         go false = (refl, same-station st 0)
 
     step-done : (id time : ℕ)
-        → Done st (routeTo ids id refusal.IdNotRegistered false) (ask.Step id time) f (moved (stepIn st id time)) (stepIn st id time .station)
+        → Done st (routeTo ids id refusal.IdNotRegistered false false) (ask.Step id time) f (moved (stepIn st id time)) (stepIn st id time .station)
     unfolding routeTo stepIn atPlace
     step-done id time = rw (same-place (st .motors) id eight) (go (ltb (taken id) 8))
       where
         go : (b : Bool)
             → let m = cond b (movedAt st (taken id) (stepOf (motorAt st (taken id)) time)) (unmoved st) in
-            Done st (cond b (routeAt (taken id) false) (nowhere refusal.IdNotRegistered)) (ask.Step id time) f (moved m) (m .station)
+            Done st (cond b (routeAt (taken id) false false) (nowhere refusal.IdNotRegistered)) (ask.Step id time) f (moved m) (m .station)
         go true = (refl, refl)
         go false = (refl, same-station st 0)
 
     remove-done : (id time : ℕ)
-        → Done st (routeTo ids id refusal.IdNotRegistered false) (ask.Remove id time) f (told (removeIn st id time .said)) (removeIn st id time .station)
+        → Done st (routeTo ids id refusal.IdNotRegistered false false) (ask.Remove id time) f (told (removeIn st id time .said)) (removeIn st id time .station)
     unfolding routeTo removeIn atPlace
     remove-done id time = rw (same-place (st .motors) id eight) (go (ltb (taken id) 8))
       where
@@ -126,7 +127,7 @@ module _ (st : Station) (f : CanFrame) where
             cond b (stations.removedAt (removalOf (motorAt st (taken id)) time) st (taken id))
             (stations.told st (checked.Refused refusal.IdNotRegistered))
             in
-            Done st (cond b (routeAt (taken id) false) (nowhere refusal.IdNotRegistered)) (ask.Remove id time) f (told (t .said)) (t .station)
+            Done st (cond b (routeAt (taken id) false false) (nowhere refusal.IdNotRegistered)) (ask.Remove id time) f (told (t .said)) (t .station)
         go true = removed-done (removalOf (motorAt st (taken id)) time) (taken id)
         go false = (refl, same-station st 0)
 
@@ -138,7 +139,7 @@ module _ (st : Station) (f : CanFrame) where
             → let i = taken (source f) in
             let other = stations.told st (checked.Refused refusal.FrameNotAccepted) in
             let t = cond a (cond b (stations.heardAt st i (heardOf (motorAt st i) f time)) other) other in
-            let r = cond a (cond b (routeAt i (not (isRead f))) (nowhere refusal.FrameNotAccepted)) (nowhere refusal.FrameNotAccepted) in
+            let r = cond a (cond b (routeAt i (not (isRead f)) (isRead f)) (nowhere refusal.FrameNotAccepted)) (nowhere refusal.FrameNotAccepted) in
             Done st r (ask.Frame time) f (told (t .said)) (t .station)
         go true true = (refl, refl)
         go true false = (refl, same-station st 0)
@@ -172,66 +173,79 @@ module _ (st : Station) (f : CanFrame) where
     done (ask.Frame time) = frame-done time
     done (ask.Remove id time) = remove-done id time
 
--- ---- a quiet call leaves the readings
+-- ---- where a call can go: nowhere, to a place, or, a frame, to a place that is quiet or edits
 
--- a call that goes this way and is quiet
-abbrev Quiet : Route → Ask → CanFrame → Type 0
-Quiet r k f =
-    r .quiet ≡ true
-    → (m : Motor)
-    → let a : Asked = record { ask = k; frame = f } in
-    (keptBy (r .said) (m .state) a .replied ≡ visitedBy (r .said) m a .replied)
-    × (_≡_ {A = Motor} (record { state = keptBy (r .said) (m .state) a .state; readings = m .readings }) (visitedBy (r .said) m a .motor))
-
-module _ (f : CanFrame) (ids : List ℕ) where
-  quiet-nowhere : (k : Ask) (r : Refusal) → Quiet (nowhere r) k f
-  quiet-nowhere k r q m = (refl, refl)
-
-  loud-at : (k : Ask) (i : ℕ) → Quiet (routeAt i false) k f
-  loud-at k i q m = absurd (true≢false (sym q))
-
-  frame-at : (time i : ℕ) → Quiet (routeAt i (not (isRead f))) (ask.Frame time) f
-  frame-at time i q m = rw (heard-quiet m f time (not-true (isRead f) q)) (refl, refl)
-
-  loud-to : (k : Ask) (id : ℕ) (r : Refusal) → Quiet (routeTo ids id r false) k f
+module _ (f : CanFrame) (ids : List ℕ) (Φ : Route → Type 0) (at-none : (r : Refusal) → Φ (nowhere r)) (loud : (i : ℕ) → Φ (routeAt i false false)) where
+  at-place : (id : ℕ) (r : Refusal) → Φ (routeTo ids id r false false)
   unfolding routeTo
-  loud-to k id r = go (ltb (takenIn ids id) 8)
+  at-place id r = go (ltb (takenIn ids id) 8)
     where
-      go : (b : Bool) → Quiet (cond b (routeAt (takenIn ids id) false) (nowhere r)) k f
-      go true = loud-at k (takenIn ids id)
-      go false = quiet-nowhere k r
+      go : (b : Bool) → Φ (cond b (routeAt (takenIn ids id) false false) (nowhere r))
+      go true = loud (takenIn ids id)
+      go false = at-none r
 
-  quiet-frame : (time : ℕ) → Quiet (routeFrame ids f) (ask.Frame time) f
+  at-free : (id : ℕ) → Φ (routeFree ids id)
+  unfolding routeFree
+  at-free id = go (ltb (takenIn ids id) 8) (ltb (indexIn ids 0) 8)
+    where
+      go : (b d : Bool)
+          → Φ (cond b (nowhere refusal.IdRegistered) (cond d (routeAt (indexIn ids 0) false false) (nowhere refusal.StationFull)))
+      go true d = at-none refusal.IdRegistered
+      go false true = loud (indexIn ids 0)
+      go false false = at-none refusal.StationFull
+
+  at-new : (id : ℕ) (n : Admission) → Φ (routeNew ids id n)
+  at-new id (admission.Admitted model) = at-free id
+  at-new id (admission.Refused r) = at-none r
+
+  at-frame : ((i : ℕ) → Φ (routeAt i (not (isRead f)) (isRead f))) → Φ (routeFrame ids f)
   unfolding routeFrame routeTo
-  quiet-frame time = go (accepts (source f) f) (ltb (takenIn ids (source f)) 8)
+  at-frame heard = go (accepts (source f) f) (ltb (takenIn ids (source f)) 8)
     where
       go : (a b : Bool)
           → let none = nowhere refusal.FrameNotAccepted in
-          Quiet (cond a (cond b (routeAt (takenIn ids (source f)) (not (isRead f))) none) none) (ask.Frame time) f
-      go true true = frame-at time (takenIn ids (source f))
-      go true false = quiet-nowhere (ask.Frame time) refusal.FrameNotAccepted
-      go false b = quiet-nowhere (ask.Frame time) refusal.FrameNotAccepted
+          Φ (cond a (cond b (routeAt (takenIn ids (source f)) (not (isRead f)) (isRead f)) none) none)
+      go true true = heard (takenIn ids (source f))
+      go true false = at-none refusal.FrameNotAccepted
+      go false b = at-none refusal.FrameNotAccepted
 
-  quiet-free : (k : Ask) (id : ℕ) → Quiet (routeFree ids id) k f
-  unfolding routeFree
-  quiet-free k id = go (ltb (takenIn ids id) 8) (ltb (indexIn ids 0) 8)
+  goes : (k : Ask) → ((time i : ℕ) → k ≡ ask.Frame time → Φ (routeAt i (not (isRead f)) (isRead f))) → Φ (routeBy ids k f)
+  goes (ask.Register id host model wait time) heard = at-new id (registrationOf id host model wait time)
+  goes (ask.Start id c time) heard = at-place id refusal.IdNotRegistered
+  goes (ask.Step id time) heard = at-place id refusal.IdNotRegistered
+  goes (ask.Frame time) heard = at-frame (λ i. heard time i refl)
+  goes (ask.Remove id time) heard = at-place id refusal.IdNotRegistered
+
+-- ---- a quiet call leaves the readings, and one that edits stores what it changes of them
+
+module _ (k : Ask) (f : CanFrame) where
+  abbrev asked : Asked
+  asked = record { ask = k; frame = f }
+
+  -- this reply and this motor are those of the call by value
+  abbrev Same : Route → Motor → Replied → Motor → Type 0
+  Same r m reply after = (reply ≡ visitedBy (r .said) m asked .replied) × (after ≡ visitedBy (r .said) m asked .motor)
+
+  abbrev Quiet : Route → Type 0
+  Quiet r =
+      r .quiet ≡ true
+      → (m : Motor) → Same r m (keptBy (r .said) (m .state) asked .replied) (record { state = keptBy (r .said) (m .state) asked .state; readings = m .readings })
+
+  abbrev Edits : Route → Type 0
+  Edits r = r .edits ≡ true → (m : Motor) → Same r m (editedOf m asked .replied) (editedMotor m (editedOf m asked))
+
+  quiets : (ids : List ℕ) → Quiet (routeBy ids k f)
+  quiets ids = goes f ids Quiet (λ r q m. (refl, refl)) (λ i q m. absurd (true≢false (sym q))) k heard
     where
-      go : (b d : Bool)
-          → Quiet (cond b (nowhere refusal.IdRegistered) (cond d (routeAt (indexIn ids 0) false) (nowhere refusal.StationFull))) k f
-      go true d = quiet-nowhere k refusal.IdRegistered
-      go false true = loud-at k (indexIn ids 0)
-      go false false = quiet-nowhere k refusal.StationFull
+      heard : (time i : ℕ) → k ≡ ask.Frame time → Quiet (routeAt i (not (isRead f)) (isRead f))
+      heard time i e q m = rw (e, heard-quiet m f time (not-true (isRead f) q)) (refl, refl)
 
-  quiet-new : (k : Ask) (id : ℕ) (n : Admission) → Quiet (routeNew ids id n) k f
-  quiet-new k id (admission.Admitted model) = quiet-free k id
-  quiet-new k id (admission.Refused r) = quiet-nowhere k r
-
-  quiets : (k : Ask) → Quiet (routeBy ids k f) k f
-  quiets (ask.Register id host model wait time) = quiet-new (ask.Register id host model wait time) id (registrationOf id host model wait time)
-  quiets (ask.Start id c time) = loud-to (ask.Start id c time) id refusal.IdNotRegistered
-  quiets (ask.Step id time) = loud-to (ask.Step id time) id refusal.IdNotRegistered
-  quiets (ask.Frame time) = quiet-frame time
-  quiets (ask.Remove id time) = loud-to (ask.Remove id time) id refusal.IdNotRegistered
+  edits : (ids : List ℕ) → Edits (routeBy ids k f)
+  unfolding editedOf
+  edits ids = goes f ids Edits (λ r q m. absurd (true≢false (sym q))) (λ i q m. absurd (true≢false (sym q))) k heard
+    where
+      heard : (time i : ℕ) → k ≡ ask.Frame time → Edits (routeAt i (not (isRead f)) (isRead f))
+      heard time i e q m = rw (e, heard-read m f time q) (refl, refl)
 
 -- ---- the by-value call
 
@@ -241,11 +255,22 @@ module _ (st : Station) (eight : length (st .motors) ≡ 8) (a : Asked) (r : Rou
   unfolding visitedOf replyIn stationIn routeOf
   full = rw e (done st (a .frame) eight (a .ask))
 
+  -- what is left at the place, by whichever way, is what the call by value leaves there
+  left : (reply : Replied) (m : Motor) → (reply ≡ visitedOf (motorAt st (r .«at»)) a r .replied) × (m ≡ visitedOf (motorAt st (r .«at»)) a r .motor)
+      → (reply ≡ replyIn st a) × (withMotor st (r .«at») m ≡ stationIn st a)
+  left reply m same = (same .0 ∙ full .0, ap (λ (x : Motor). withMotor st (r .«at») x) (same .1) ∙ full .1)
+
   same-kept : r .quiet ≡ true
       → (keptOf (motorAt st (r .«at») .state) a r .replied ≡ visitedOf (motorAt st (r .«at»)) a r .replied)
       × (_≡_ {A = Motor} (record { state = keptOf (motorAt st (r .«at») .state) a r .state; readings = motorAt st (r .«at») .readings }) (visitedOf (motorAt st (r .«at»)) a r .motor))
   unfolding visitedOf keptOf routeOf
-  same-kept = rw e (λ q. quiets (a .frame) (idsOf (st .motors)) (a .ask) q (motorAt st (routeOf (idsOf (st .motors)) a .«at»)))
+  same-kept = rw e (λ q. quiets (a .ask) (a .frame) (idsOf (st .motors)) q (motorAt st (routeOf (idsOf (st .motors)) a .«at»)))
+
+  same-edited : r .edits ≡ true
+      → (editedOf (motorAt st (r .«at»)) a .replied ≡ visitedOf (motorAt st (r .«at»)) a r .replied)
+      × (editedMotor (motorAt st (r .«at»)) (editedOf (motorAt st (r .«at»)) a) ≡ visitedOf (motorAt st (r .«at»)) a r .motor)
+  unfolding visitedOf routeOf
+  same-edited = rw e (λ q. edits (a .ask) (a .frame) (idsOf (st .motors)) q (motorAt st (routeOf (idsOf (st .motors)) a .«at»)))
 
   pub quiet : r .quiet ≡ true
       → (keptOf (getD (st .motors) (r .«at») freeMotor .state) a r .replied ≡ replyIn st a)
@@ -256,4 +281,11 @@ module _ (st : Station) (eight : length (st .motors) ≡ 8) (a : Asked) (r : Rou
             (record { state = keptOf (getD (st .motors) (r .«at») freeMotor .state) a r .state; readings = getD (st .motors) (r .«at») freeMotor .readings });
       })
       (stationIn st a))
-  quiet q = (same-kept q .0 ∙ full .0, ap (λ (m : Motor). withMotor st (r .«at») m) (same-kept q .1) ∙ full .1)
+  quiet q = left _ _ (same-kept q)
+
+  pub edit : r .edits ≡ true
+      → (editedOf (getD (st .motors) (r .«at») freeMotor) a .replied ≡ replyIn st a)
+      × (_≡_ {A = Station}
+      (record { motors = set (st .motors) (r .«at») (editedMotor (getD (st .motors) (r .«at») freeMotor) (editedOf (getD (st .motors) (r .«at») freeMotor) a)) })
+      (stationIn st a))
+  edit q = left _ _ (same-edited q)

@@ -22,6 +22,7 @@ use Rattle.motor.specs.declared.quiet.StateHeard.{StateHeard}
 use Rattle.motor.specs.declared.registration.Admission.{Admission}
 use Rattle.motor.specs.declared.registration.Admission.the-variants as admission
 use Rattle.motor.specs.Calls.{registrationOf}
+use Rattle.motor.specs.Edits.{edited, readHeard}
 use Rattle.motor.specs.Motors.{newMotor, startOf, stepOf, removalOf}
 use Rattle.motor.specs.Receive.{accepts, isRead, heardOf, stateHeard}
 use Rattle.lent.specs.declared.call.Ask.{Ask}
@@ -32,6 +33,7 @@ use Rattle.lent.specs.declared.call.Replied.{Replied}
 use Rattle.lent.specs.declared.route.Route.{Route}
 use Rattle.lent.specs.declared.visit.Visited.{Visited}
 use Rattle.lent.specs.declared.visit.Kept.{Kept}
+use Rattle.lent.specs.declared.visit.Edited.{Edited}
 use Rattle.station.specs.declared.station.Moved.{Moved}
 use Rattle.station.specs.declared.station.Station.{Station}
 use Rattle.station.specs.Station.{source}
@@ -90,21 +92,21 @@ indexIn (x ∷ xs) id = cond (eqb x id) zero (suc (indexIn xs id))
 unfoldable pub takenIn : List ℕ → ℕ → ℕ
 takenIn ids id = cond (eqb id 0) 8 (indexIn ids id)
 
-abbrev pub routeAt : ℕ → Bool → Route
-routeAt i quiet = record { «at» = i; said = checked.Passed; quiet = quiet }
+abbrev pub routeAt : ℕ → Bool → Bool → Route
+routeAt i quiet edits = record { «at» = i; said = checked.Passed; quiet = quiet; edits = edits }
 
 -- refused before any motor takes it
 abbrev pub nowhere : Refusal → Route
-nowhere r = record { «at» = 0; said = checked.Refused r; quiet = true }
+nowhere r = record { «at» = 0; said = checked.Refused r; quiet = true; edits = false }
 
-unfoldable pub routeTo : List ℕ → ℕ → Refusal → Bool → Route
-routeTo ids id r quiet = cond (ltb (takenIn ids id) 8) (routeAt (takenIn ids id) quiet) (nowhere r)
+unfoldable pub routeTo : List ℕ → ℕ → Refusal → Bool → Bool → Route
+routeTo ids id r quiet edits = cond (ltb (takenIn ids id) 8) (routeAt (takenIn ids id) quiet edits) (nowhere r)
 
 -- 5, 4
 unfoldable pub routeFree : List ℕ → ℕ → Route
 routeFree ids id =
     cond (ltb (takenIn ids id) 8) (nowhere refusal.IdRegistered)
-    (cond (ltb (indexIn ids 0) 8) (routeAt (indexIn ids 0) false) (nowhere refusal.StationFull))
+    (cond (ltb (indexIn ids 0) 8) (routeAt (indexIn ids 0) false false) (nowhere refusal.StationFull))
 
 abbrev pub routeNew : List ℕ → ℕ → Admission → Route
 routeNew ids id (admission.Admitted model) = routeFree ids id
@@ -112,14 +114,14 @@ routeNew ids id (admission.Refused r) = nowhere r
 
 unfoldable pub routeFrame : List ℕ → CanFrame → Route
 routeFrame ids f =
-    cond (accepts (source f) f) (routeTo ids (source f) refusal.FrameNotAccepted (not (isRead f))) (nowhere refusal.FrameNotAccepted)
+    cond (accepts (source f) f) (routeTo ids (source f) refusal.FrameNotAccepted (not (isRead f)) (isRead f)) (nowhere refusal.FrameNotAccepted)
 
 abbrev pub routeBy : List ℕ → Ask → CanFrame → Route
 routeBy ids (ask.Register id host model wait time) f = routeNew ids id (registrationOf id host model wait time)
-routeBy ids (ask.Start id command time) f = routeTo ids id refusal.IdNotRegistered false
-routeBy ids (ask.Step id time) f = routeTo ids id refusal.IdNotRegistered false
+routeBy ids (ask.Start id command time) f = routeTo ids id refusal.IdNotRegistered false false
+routeBy ids (ask.Step id time) f = routeTo ids id refusal.IdNotRegistered false false
 routeBy ids (ask.Frame time) f = routeFrame ids f
-routeBy ids (ask.Remove id time) f = routeTo ids id refusal.IdNotRegistered false
+routeBy ids (ask.Remove id time) f = routeTo ids id refusal.IdNotRegistered false false
 
 unfoldable pub routeOf : List ℕ → Asked → Route
 routeOf ids a = routeBy ids (a .ask) (a .frame)
@@ -189,3 +191,14 @@ keptBy (checked.Refused r) s a = kept s (refused (a .ask) r)
 
 unfoldable pub keptOf : State → Asked → Route → Kept
 keptOf s a r = keptBy (r .said) s a
+
+-- ---- the same of a call that edits: a read reply
+
+unfoldable pub editedOf : Motor → Asked → Edited
+editedOf m a =
+    let h = readHeard m (a .frame) (timeOf (a .ask)) in
+    record { state = h .state; edit = h .edit; replied = told (h .said) }
+
+-- the motor once an edit is stored
+abbrev pub editedMotor : Motor → Edited → Motor
+editedMotor m v = record { state = v .state; readings = edited (m .readings) (v .edit) }

@@ -1,5 +1,6 @@
-// The calls on a station that is lent: only the place that a call names is copied out, and what it holds then is stored back.
+// The calls on a station that is lent: only the place that a call names is copied out, and what changes there is stored back.
 use crate::route::routed;
+use crate::visit::edited_at;
 use crate::visit::kept_at;
 use crate::visit::visited_at;
 use codec::bus::CanFrame;
@@ -58,7 +59,8 @@ pub struct Replied {
 }
 
 // A call on a lent station: the eight places. The reply, and the station at exit, are those of the by-value call. A quiet call
-// copies the state of one motor out and stores it back, any other one motor.
+// copies the state of one motor out and stores it back; one that edits copies one motor out and stores its state, and of its
+// readings what changes; any other copies one motor out and stores it back.
 pub fn call(motors: &mut [Motor; 8], asked: Asked) -> Replied
     ensures { λ r. ⌜ (r ≡ replyIn (stationOf (now (motors .entry))) asked) × (stationOf (now (motors .exit)) ≡ stationIn (stationOf (now (motors .entry))) asked) ⌝ }
 {
@@ -78,6 +80,16 @@ pub fn call(motors: &mut [Motor; 8], asked: Asked) -> Replied
         let kept = kept_at(motors[i].state, asked, route);
         motors[i].state = kept.state;
         return kept.replied;
+    }
+    if route.edits {
+        let edited = edited_at(motors[i], asked);
+        motors[i].state = edited.state;
+        let first = edited.edit.first;
+        motors[i].readings.records[first] = edited.edit.one;
+        let second = edited.edit.second;
+        motors[i].readings.records[second].next = edited.edit.link;
+        motors[i].readings.free = edited.edit.free;
+        return edited.replied;
     }
     let visited = visited_at(motors[i], asked, route);
     motors[i] = visited.motor;

@@ -13,12 +13,13 @@ ghost use mathlib.Core.Path.{_≡_};
 ghost use Prim.Native.Nat.{_<_};
 ghost use Rattle.lent.specs.Lent as spec;
 
-// The place, and whether the call has passed what is tested before any motor takes it. A quiet call concerns no reading. A call
-// that goes nowhere goes to the first place and is refused there.
+// The place, and whether the call has passed what is tested before any motor takes it. A quiet call concerns no reading; one that
+// edits concerns one. A call that goes nowhere goes to the first place and is refused there.
 pub struct Route {
     pub at: usize,
     pub said: Checked,
     pub quiet: bool,
+    pub edits: bool,
 }
 
 // The first place of an id among the places' ids, 8 where there is none. That of 0 is the first free place.
@@ -45,14 +46,15 @@ fn taken_in(ids: [u16; 8], id: u16) -> usize
     place_in(ids, id)
 }
 
-fn route_at(at: usize, quiet: bool) -> Route
+fn route_at(at: usize, quiet: bool, edits: bool) -> Route
     requires { ⌜ at < 8 ⌝ }
-    ensures { λ r. ⌜ (r ≡ spec.routeAt at quiet) × (r .at < 8) ⌝ }
+    ensures { λ r. ⌜ (r ≡ spec.routeAt at quiet edits) × (r .at < 8) ⌝ }
 {
     Route {
         at,
         said: Checked::Passed,
         quiet,
+        edits,
     }
 }
 
@@ -63,16 +65,17 @@ fn nowhere(refusal: Refusal) -> Route
         at: 0,
         said: Checked::Refused(refusal),
         quiet: true,
+        edits: false,
     }
 }
 
 // To the place of a registered motor, else refused.
-fn route_to(ids: [u16; 8], id: u16, refusal: Refusal, quiet: bool) -> Route
-    ensures { λ r. ⌜ (r ≡ spec.routeTo ids id refusal quiet) × (r .at < 8) ⌝ }
+fn route_to(ids: [u16; 8], id: u16, refusal: Refusal, quiet: bool, edits: bool) -> Route
+    ensures { λ r. ⌜ (r ≡ spec.routeTo ids id refusal quiet edits) × (r .at < 8) ⌝ }
 {
     let i = taken_in(ids, id);
     if i < 8 {
-        return route_at(i, quiet);
+        return route_at(i, quiet, edits);
     }
     nowhere(refusal)
 }
@@ -86,7 +89,7 @@ fn route_free(ids: [u16; 8], id: u16) -> Route
     }
     let i = place_in(ids, 0);
     if i < 8 {
-        return route_at(i, false);
+        return route_at(i, false, false);
     }
     nowhere(Refusal::StationFull)
 }
@@ -106,7 +109,8 @@ fn route_frame(ids: [u16; 8], frame: CanFrame) -> Route
 {
     let id = source_of(frame);
     if accepts_frame(id, frame) {
-        return route_to(ids, id, Refusal::FrameNotAccepted, !is_read(frame));
+        let edits = is_read(frame);
+        return route_to(ids, id, Refusal::FrameNotAccepted, !edits, edits);
     }
     nowhere(Refusal::FrameNotAccepted)
 }
@@ -128,9 +132,9 @@ pub(crate) fn routed(ids: [u16; 8], asked: Asked) -> Route
             id,
             command: _,
             time: _,
-        } => route_to(ids, id, Refusal::IdNotRegistered, false),
-        Ask::Step { id, time: _ } => route_to(ids, id, Refusal::IdNotRegistered, false),
+        } => route_to(ids, id, Refusal::IdNotRegistered, false, false),
+        Ask::Step { id, time: _ } => route_to(ids, id, Refusal::IdNotRegistered, false, false),
         Ask::Frame { time: _ } => route_frame(ids, asked.frame),
-        Ask::Remove { id, time: _ } => route_to(ids, id, Refusal::IdNotRegistered, false),
+        Ask::Remove { id, time: _ } => route_to(ids, id, Refusal::IdNotRegistered, false, false),
     }
 }

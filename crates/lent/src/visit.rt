@@ -9,6 +9,9 @@ use codec::error::Refusal;
 use codec::model::ModelNamed;
 use engine::command::Said;
 use engine::requests::no_frame;
+use motor::edits::Edit;
+use motor::edits::ReadHeard;
+use motor::edits::hear_read;
 use motor::motor::Answered;
 use motor::motor::Motor;
 use motor::motor::State;
@@ -19,6 +22,7 @@ use motor::receive::Heard;
 use motor::receive::process_feedback_frame;
 use station::place::free_motor;
 ghost use mathlib.Core.Path.{_≡_};
+ghost use Prim.Native.Nat.{_<_};
 ghost use Rattle.lent.specs.Lent as spec;
 
 // A motor and the reply.
@@ -30,6 +34,13 @@ pub struct Visited {
 // The same where the readings stay.
 pub struct Kept {
     pub state: State,
+    pub replied: Replied,
+}
+
+// The same where an edit says what becomes of them.
+pub struct Edited {
+    pub state: State,
+    pub edit: Edit,
     pub replied: Replied,
 }
 
@@ -215,5 +226,24 @@ pub(crate) fn kept_at(s: State, asked: Asked, route: Route) -> Kept
     match said {
         Checked::Passed => kept_heard(hear_state(s, asked.frame, time_of(ask))),
         Checked::Refused(refusal) => keep(s, refused(ask, refusal)),
+    }
+}
+
+// ---- a call that edits
+
+// A read reply at its place.
+pub(crate) fn edited_at(m: Motor, asked: Asked) -> Edited
+    ensures { λ r. ⌜ (r ≡ spec.editedOf m asked) × (r .edit .first < 97) × (r .edit .second < 97) ⌝ }
+{
+    let ask = asked.ask;
+    let h = hear_read(m, asked.frame, time_of(ask));
+    let state = h.state;
+    let edit = h.edit;
+    let said = h.said;
+    let replied = told(said);
+    Edited {
+        state,
+        edit,
+        replied,
     }
 }
