@@ -1,4 +1,4 @@
--- The place of an id among the places' ids: a search passes over the others, stops at it, or ends. Assumes nothing.
+-- The place of an id among the places' ids: a search passes over the others, stops at it, or ends; it is the id's place in the station. Assumes nothing.
 use Prim.Native.Nat.{ℕ, zero, suc, _+_, _<_}
 use mathlib.Core.Path.{_≡_, refl}
 use mathlib.Core.List.{List, [], _∷_}
@@ -6,7 +6,9 @@ use native.Mathlib.Nat.{le-of-suc-le-suc, not-suc-le-zero}
 use native.Mathlib.Numerals.{add-one}
 use native.Mathlib.Omega.{arith}
 use lib.ListN.{length, getD, drop}
-use Rattle.lent.specs.Lent.{indexIn}
+use Rattle.motor.specs.declared.motor.Motor.{Motor}
+use Rattle.station.specs.Stations.{indexOf, takenPlace}
+use Rattle.lent.specs.Lent.{idsOf, indexIn, takenIn}
 use Rattle.station.proofs.Index.{not-same}
 use Rattle.station.proofs.Places.{own-id}
 
@@ -30,3 +32,20 @@ pub at-end : (xs : List ℕ) (m : ℕ) → indexIn (drop (length xs) xs) m ≡ 0
 unfolding indexIn
 at-end [] m = refl
 at-end (x ∷ xs) m = at-end xs m
+
+same-index : (ms : List Motor) (id : ℕ) → length ms ≡ 8 → indexIn (idsOf ms) id ≡ indexOf ms id
+unfolding indexIn indexOf
+same-index (a ∷ b ∷ c ∷ d ∷ e ∷ f ∷ g ∷ h ∷ []) id n = refl
+same-index [] id n = absurd (omega arith)
+same-index (a ∷ []) id n = absurd (omega arith)
+same-index (a ∷ b ∷ []) id n = absurd (omega arith)
+same-index (a ∷ b ∷ c ∷ []) id n = absurd (omega arith)
+same-index (a ∷ b ∷ c ∷ d ∷ []) id n = absurd (omega arith)
+same-index (a ∷ b ∷ c ∷ d ∷ e ∷ []) id n = absurd (omega arith)
+same-index (a ∷ b ∷ c ∷ d ∷ e ∷ f ∷ []) id n = absurd (omega arith)
+same-index (a ∷ b ∷ c ∷ d ∷ e ∷ f ∷ g ∷ []) id n = absurd (omega arith)
+same-index (a ∷ b ∷ c ∷ d ∷ e ∷ f ∷ g ∷ h ∷ i ∷ ms) id n = absurd (omega arith)
+
+pub same-place : (ms : List Motor) (id : ℕ) → length ms ≡ 8 → takenIn (idsOf ms) id ≡ takenPlace ms id
+unfolding takenIn takenPlace
+same-place ms id n = rw (same-index ms id n)

@@ -1,8 +1,10 @@
 pub mod IdIndex
 pub mod Lending
+pub mod Looking
 pub mod Lenses
 pub mod MotorParts
 pub mod CallWalk
+pub mod LookWalk
 pub mod Frees
 pub mod Local
 pub mod Structs

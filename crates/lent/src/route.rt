@@ -37,7 +37,7 @@ fn place_in(ids: [u16; 8], id: u16) -> usize
 }
 
 // The place of a registered motor, 8 where the id isn't registered.
-fn taken_in(ids: [u16; 8], id: u16) -> usize
+pub(crate) fn taken_in(ids: [u16; 8], id: u16) -> usize
     ensures { λ r. ⌜ r ≡ spec.takenIn ids id ⌝ }
 {
     if id == 0 {

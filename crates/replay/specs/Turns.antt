@@ -1,6 +1,6 @@
--- A line as a call on a lent station, and its answer's text. Definitions only.
+-- A line as a call or a look on a lent station, and its answer's text. Definitions only.
 use Prim.Native.Nat.{ℕ, _-_}
-use mathlib.Core.Bool.{true, false, cond}
+use mathlib.Core.Bool.{Bool, true, false, cond}
 use mathlib.Core.List.{List, []}
 use lib.Dec.{ltb, leb}
 use lib.ListN.{length, take, drop}
@@ -12,6 +12,7 @@ use Rattle.session.specs.declared.event.Event.the-variants as event
 use Rattle.session.specs.Lines.{eventOf}
 use Rattle.lent.specs.declared.call.Ask.{Ask}
 use Rattle.lent.specs.declared.call.Ask.the-variants as ask
+use Rattle.lent.specs.declared.call.Asked.{Asked}
 use Rattle.lent.specs.declared.call.Reply.{Reply}
 use Rattle.lent.specs.declared.call.Reply.the-variants as reply
 use Rattle.lent.specs.declared.call.Replied.{Replied}
@@ -28,23 +29,27 @@ lineAt inp from end = cond (leb from end) (cond (leb end (length inp)) (take (en
 unfoldable pub roomAt : ℕ → ℕ
 roomAt p = cond (ltb 57344 p) 0 p
 
+abbrev pub callOf : Asked → ℕ → Line
+callOf a time = record { asks = true; asked = a; time = time; looks = false; id = 0 }
+
 abbrev pub callWith : Ask → ℕ → Line
-callWith a time = record { asks = true; asked = record { ask = a; frame = noFrame }; time = time }
+callWith a time = callOf (record { ask = a; frame = noFrame }) time
 
-abbrev pub noCall : Line
-noCall = record { asks = false; asked = record { ask = ask.Step 0 0; frame = noFrame }; time = 0 }
+-- a look at an id where looks is true
+abbrev pub noCall : Bool → ℕ → Line
+noCall looks id = record { asks = false; asked = record { ask = ask.Step 0 0; frame = noFrame }; time = 0; looks = looks; id = id }
 
--- register, start, step, frame and remove are calls on a motor; the rest goes by value
+-- register, start, step, frame and remove are calls on a motor
 unfoldable pub lineOf : Event → ModelNamed → Line
-lineOf event.Nothing model = noCall
-lineOf (event.Error reason) model = noCall
-lineOf event.Fresh model = noCall
+lineOf event.Nothing model = noCall false 0
+lineOf (event.Error reason) model = noCall false 0
+lineOf event.Fresh model = noCall false 0
 lineOf (event.Register id host wait time) model = callWith (ask.Register id host model wait time) time
 lineOf (event.Start id time command) model = callWith (ask.Start id command time) time
 lineOf (event.Step id time) model = callWith (ask.Step id time) time
 lineOf (event.Frame time id v extended dlc rx) model =
-    record { asks = true; asked = record { ask = ask.Frame time; frame = frameOf id v extended dlc rx }; time = time }
-lineOf (event.Look id) model = noCall
+    callOf (record { ask = ask.Frame time; frame = frameOf id v extended dlc rx }) time
+lineOf (event.Look id) model = noCall true id
 lineOf (event.Remove id time) model = callWith (ask.Remove id time) time
 
 unfoldable pub askedIn : List ℕ → Line

@@ -1,9 +1,10 @@
-// A line answered on the lent station: the eight places. A call goes to the place that it names; what reads or replaces the whole
-// station, or nothing of it, goes by value.
+// A line answered on the lent station: the eight places. A call and a look go to the place that they name; what replaces the
+// station, or concerns nothing of it, goes by value.
 use crate::calls::frame_of;
 use crate::calls::on_line;
 use crate::lines::flush;
 use crate::lines::line_end;
+use answers::looks::put_looked;
 use answers::said::put_said;
 use answers::said::put_told;
 use codec::model::model_named;
@@ -13,16 +14,19 @@ use lent::call::Asked;
 use lent::call::Replied;
 use lent::call::Reply;
 use lent::call::call;
+use lent::look::look;
 use motor::motor::Motor;
 use session::event::Event;
 use session::line::event_of;
 use session::line::shown;
+use station::station::Looked;
 use station::station::Station;
 ghost use mathlib.Core.Path.{_≡_};
 ghost use mathlib.Core.Bool.{true};
 ghost use Prim.Native.Nat.{_<_};
 ghost use Rattle.codec.specs.Models.{modelNamed};
 ghost use Rattle.text.specs.Put.{Put};
+ghost use Rattle.answers.specs.Looks.{lookedText};
 ghost use Rattle.lent.specs.Lent.{stationOf};
 ghost use Rattle.replay.specs.Events as spec;
 ghost use Rattle.replay.specs.Turns as turn;
@@ -38,11 +42,13 @@ pub struct Cursor {
     pub good: bool,
 }
 
-// What a line asks of a lent station, where it is a call on a motor; and the call's time.
+// What a line asks of a lent station, where it is a call on a motor, and the call's time; the id, where it is a look.
 pub struct Line {
     pub asks: bool,
     pub asked: Asked,
     pub time: u64,
+    pub looks: bool,
+    pub id: u16,
 }
 
 // The places after lines, and where the next line stands.
@@ -118,20 +124,28 @@ fn next_line(inp: &[u8], n: usize, c: Cursor, at: usize, good: bool) -> Cursor
 
 // ---- calls
 
-fn call_with(ask: Ask, time: u64) -> Line
-    ensures { λ r. ⌜ r ≡ turn.callWith ask time ⌝ }
+fn call_of(asked: Asked, time: u64) -> Line
+    ensures { λ r. ⌜ r ≡ turn.callOf asked time ⌝ }
 {
-    let frame = no_frame();
-    let asked = Asked { ask, frame };
     Line {
         asks: true,
         asked,
         time,
+        looks: false,
+        id: 0,
     }
 }
 
-fn no_call() -> Line
-    ensures { λ r. ⌜ r ≡ turn.noCall ⌝ }
+fn call_with(ask: Ask, time: u64) -> Line
+    ensures { λ r. ⌜ r ≡ turn.callWith ask time ⌝ }
+{
+    let frame = no_frame();
+    call_of(Asked { ask, frame }, time)
+}
+
+// No call; a look at an id where looks is true.
+fn no_call(looks: bool, id: u16) -> Line
+    ensures { λ r. ⌜ r ≡ turn.noCall looks id ⌝ }
 {
     let ask = Ask::Step { id: 0, time: 0 };
     let frame = no_frame();
@@ -140,17 +154,19 @@ fn no_call() -> Line
         asks: false,
         asked,
         time: 0,
+        looks,
+        id,
     }
 }
 
-// The call that an event is; name is the model that a registration names.
+// The call or the look that an event is; name is the model that a registration names.
 fn line_of(event: Event, name: &[u8]) -> Line
     ensures { λ r. ⌜ r ≡ turn.lineOf event (modelNamed (now (name .entry))) ⌝ }
 {
     match event {
-        Event::Nothing => no_call(),
-        Event::Error(_) => no_call(),
-        Event::Fresh => no_call(),
+        Event::Nothing => no_call(false, 0),
+        Event::Error(_) => no_call(false, 0),
+        Event::Fresh => no_call(false, 0),
         Event::Register {
             id,
             host,
@@ -181,14 +197,9 @@ fn line_of(event: Event, name: &[u8]) -> Line
         } => {
             let frame = frame_of(id, data, extended, dlc, rx);
             let ask = Ask::Frame { time };
-            let asked = Asked { ask, frame };
-            Line {
-                asks: true,
-                asked,
-                time,
-            }
+            call_of(Asked { ask, frame }, time)
         }
-        Event::Look { id: _ } => no_call(),
+        Event::Look { id } => no_call(true, id),
         Event::Remove { id, time } => call_with(Ask::Remove { id, time }, time),
     }
 }
@@ -248,6 +259,15 @@ fn put_reply(
     next_line(inp, n, c, p, room.good)
 }
 
+// Puts a look's answer, and finds the next line.
+fn put_look(looked: Looked, inp: &[u8], n: usize, out: &mut [u8], c: Cursor) -> Cursor
+    ensures { λ r. ⌜ Put (now (out .entry)) (turn.roomAt (c .«at»)) (lookedText looked) (now (out .exit)) (r .«at») × (r .more ≡ true → r .left < c .left) ⌝ }
+{
+    let room = room_for(out, c);
+    let p = put_looked(looked, out, room.at);
+    next_line(inp, n, c, p, room.good)
+}
+
 // The line at a cursor, the station by value.
 fn by_value(motors: [Motor; 8], inp: &[u8], n: usize, out: &mut [u8], c: Cursor) -> Taken
     ensures { λ r. ⌜ (stationOf (r .motors) ≡ spec.stationAfterLine (stationOf motors) (turn.lineAt (now (inp .entry)) (c .from) (c .end))) × Put (now (out .entry)) (turn.roomAt (c .«at»)) (spec.textAfterLine (stationOf motors) (turn.lineAt (now (inp .entry)) (c .from) (c .end))) (now (out .exit)) (r .cursor .«at») × (r .cursor .more ≡ true → r .cursor .left < c .left) ⌝ }
@@ -275,6 +295,10 @@ pub(crate) fn take_line(
     if line.asks {
         let replied = call(motors, line.asked);
         return put_reply(replied, line, inp, n, out, c);
+    }
+    if line.looks {
+        let looked = look(motors, line.id);
+        return put_look(looked, inp, n, out, c);
     }
     let taken = by_value(*motors, inp, n, out, c);
     *motors = taken.motors;

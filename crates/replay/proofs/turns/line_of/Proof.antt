@@ -1,4 +1,4 @@
--- Right because each event that is a call asks the call of that name.
+-- Right because each event that is a call asks the call of that name, and a look carries its id.
 use Rattle.replay.specs.Turns.{lineOf}
 use borrow.Author.Needs.{needs}
 use Rattle.replay.proofs.turns.line_of.Statement.{statement}
@@ -49,14 +49,17 @@ enum-known-event-4 c = search needs
 frame-of-requires : tie.Need-frame-of-requires
 frame-of-requires c κs = search needs
 
-enum-told-4 : tie.Need-enum-told-4
-enum-told-4 c = search needs
+call-of-requires : tie.Need-call-of-requires
+call-of-requires c κs = search needs
+
+enum-known-event-5 : tie.Need-enum-known-event-5
+enum-known-event-5 c = search needs
 
 no-call-requires-4 : tie.Need-no-call-requires-4
 no-call-requires-4 c κs = search needs
 
-enum-known-event-5 : tie.Need-enum-known-event-5
-enum-known-event-5 c = search needs
+enum-known-event-6 : tie.Need-enum-known-event-6
+enum-known-event-6 c = search needs
 
 call-with-requires-4 : tie.Need-call-with-requires-4
 call-with-requires-4 c κs = search needs
@@ -87,15 +90,15 @@ returns-6 c = rw (c .before .before .event3 .given .1) (c .call-with3 .ensures)
 
 returns-7 : tie.Need-returns-7
 unfolding lineOf
-returns-7 c = rw (c .before .before .event4 .given .1, c .frame-of .ensures)
+returns-7 c = rw (c .before .before .before .event4 .given .1, ← c .before .frame-of .ensures) (c .call-of .ensures)
 
 returns-8 : tie.Need-returns-8
 unfolding lineOf
-returns-8 c = rw (c .before .enum-told4 .given .1) (c .no-call4 .ensures)
+returns-8 c = rw (c .before .before .event5 .given .1) (c .no-call4 .ensures)
 
 returns-9 : tie.Need-returns-9
 unfolding lineOf
-returns-9 c = rw (c .before .before .event5 .given .1) (c .call-with4 .ensures)
+returns-9 c = rw (c .before .before .event6 .given .1) (c .call-with4 .ensures)
 
 pub line-of-spec : {M : Type 1} → statement M
 line-of-spec =
@@ -116,9 +119,10 @@ line-of-spec =
     call-with-requires-3
     enum-known-event-4
     frame-of-requires
-    enum-told-4
-    no-call-requires-4
+    call-of-requires
     enum-known-event-5
+    no-call-requires-4
+    enum-known-event-6
     call-with-requires-4
     returns
     returns-2
