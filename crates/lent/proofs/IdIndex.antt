@@ -33,7 +33,8 @@ unfolding indexIn
 at-end [] m = refl
 at-end (x ∷ xs) m = at-end xs m
 
-same-index : (ms : List Motor) (id : ℕ) → length ms ≡ 8 → indexIn (idsOf ms) id ≡ indexOf ms id
+-- the ids are those of the places
+pub same-index : (ms : List Motor) (id : ℕ) → length ms ≡ 8 → indexIn (idsOf ms) id ≡ indexOf ms id
 unfolding indexIn indexOf
 same-index (a ∷ b ∷ c ∷ d ∷ e ∷ f ∷ g ∷ h ∷ []) id n = refl
 same-index [] id n = absurd (omega arith)

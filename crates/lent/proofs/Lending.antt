@@ -35,26 +35,8 @@ use Rattle.station.specs.declared.station.Station.{Station}
 use Rattle.station.specs.Station.{source}
 use Rattle.station.specs.Stations.{freeMotor, indexOf, takenPlace, motorAt, withMotor, atPlace, movedAt, unmoved, enteredIn, admittedIn, registerBy, registerIn, startIn, stepIn, frameIn, removeIn}
 use Rattle.station.specs.Stations as stations
+use Rattle.lent.proofs.IdIndex.{same-index, same-place}
 use Rattle.lent.specs.Lent.{told, moved, removedAt, repliedTo, stationAt, replyIn, stationIn, idsOf, indexIn, takenIn, routeAt, nowhere, routeTo, routeFree, routeNew, routeFrame, routeBy, routeOf, visitedBy, visitedOf, keptBy, keptOf, editedOf, editedMotor}
-
--- ---- the ids are those of the places
-
-same-index : (ms : List Motor) (id : ℕ) → length ms ≡ 8 → indexIn (idsOf ms) id ≡ indexOf ms id
-unfolding indexIn indexOf
-same-index (a ∷ b ∷ c ∷ d ∷ e ∷ f ∷ g ∷ h ∷ []) id n = refl
-same-index [] id n = absurd (omega arith)
-same-index (a ∷ []) id n = absurd (omega arith)
-same-index (a ∷ b ∷ []) id n = absurd (omega arith)
-same-index (a ∷ b ∷ c ∷ []) id n = absurd (omega arith)
-same-index (a ∷ b ∷ c ∷ d ∷ []) id n = absurd (omega arith)
-same-index (a ∷ b ∷ c ∷ d ∷ e ∷ []) id n = absurd (omega arith)
-same-index (a ∷ b ∷ c ∷ d ∷ e ∷ f ∷ []) id n = absurd (omega arith)
-same-index (a ∷ b ∷ c ∷ d ∷ e ∷ f ∷ g ∷ []) id n = absurd (omega arith)
-same-index (a ∷ b ∷ c ∷ d ∷ e ∷ f ∷ g ∷ h ∷ i ∷ ms) id n = absurd (omega arith)
-
-same-place : (ms : List Motor) (id : ℕ) → length ms ≡ 8 → takenIn (idsOf ms) id ≡ takenPlace ms id
-unfolding takenIn takenPlace
-same-place ms id n = rw (same-index ms id n)
 
 -- a station with a place left as it was is the same station
 same-station : (st : Station) (i : ℕ) → withMotor st i (motorAt st i) ≡ st
