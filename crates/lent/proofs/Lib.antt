@@ -1,6 +1,7 @@
 pub mod IdIndex
 pub mod Lending
 pub mod Looking
+pub mod LentRuns
 pub mod Lenses
 pub mod MotorParts
 pub mod CallWalk
