@@ -22,7 +22,7 @@ use contract.Lifetimes.{Lfts}
 use contract.Monad.{fact}
 use types.Kit.{Given, Item, mean, ⋆, ‵, raw, _⊛_, some, given, later, runs, anyQ, atRet, Sq, _$_, _∵_, !, qed, by, move, keep, drop, group, use1, use2, use3, split, join, pick, learn, rewrite, fsplit, fjoin, feqL, suffices, frame, await, updating, now as at-once, show, check, done}
 use types.Tokens.{lft-new, lft-end}
-use types.Run.{look, init, store, forget, stop, hop, fld, from, load, and-then, no-more, land, land-last, of-opd, addr, assigns, first, skips, jumps, blocks, branches, returns, enter, alloc1, alloc0, params1, pass1, pass0, free1, free0, exec, Below, again, loops}
+use types.Run.{look, init, store, forget, stop, hop, fld, from, load, and-then, no-more, land, land-last, of-opd, addr, assigns, first, skips, jumps, blocks, branches, returns, enter, alloc1, alloc0, params1, pass1, pass0, exec, Below, again, loops}
 use types.Part.{whole, sub, look-in, agg}
 use sound.WpLaws.{fmOf, WpFn-mono}
 use denote.RattleType.{RattleType, owns}
@@ -42,6 +42,7 @@ use denote.Triple.Spec.{Meets, tripleOf}
 use denote.Triple.Walked.{Stays, stay-none, stay-none-slice, stay-slice, walkOf, AllGo, goes-none, goes-none-slice, goes-slice, ends-at, walked, walk-meets}
 use denote.Triple.Clauses.{Ended, Lasts, lasts, AtExit, Clauses, closing}
 use Rattle.motor.proofs.ThinWalk.{Held, row, still, Known}
+use Rattle.lent.proofs.Frees.{has, bare, none as none-left, frees-behind}
 use Rattle.lent.proofs.Local.{env-of, locals-at, no-more-said, cell, lent-ref, lenders, lends-local, local-back}
 use Rattle.replay.proofs.Again.{LentAgain, lends-again-at, comes-back-at}
 
@@ -319,9 +320,7 @@ module _ (Z : Held) (Q R : RattleType) (ν μ : Sym) (n₀ n₁ n₂ left : Q .D
                 (λ over. jumps ! $ exec ! (𝓣 .C) (𝓣 .Λ) En leave (atRet En Post) $
                 assigns ! (of-opd ! (load ! (from ! (stop !)) (look ! 12 refl))) (from ! (stop !)) (init ! 0 refl (Zk .fits (y .0) _ (y .3))) $
                 assigns ! (agg ! (and-then ! (load ! (from ! (stop !)) (look ! 0 refl)) (and-then ! (load ! (from ! (stop !)) (look ! 10 refl)) (no-more !)))) (from ! (stop !)) (init ! 22 refl (Rk .fits (made (y .0) (y .1)) _ (Rk .is (y .0) (y .1) (y .3) (y .4)))) $
-                returns ! (look ! 22 refl) $ forget ! 0 refl $ forget ! 8 refl $ forget ! 10 refl $ forget ! 12 refl $ forget ! 14 refl $ forget ! 16 refl $ forget ! 18 refl $ forget ! 20 refl $ forget ! 22 refl $
-                move ! (22 ∷ 23 ∷ []) $ free1 ! $ move ! (20 ∷ 21 ∷ []) $ free1 ! $ move ! (18 ∷ 19 ∷ []) $ free1 ! $ move ! (16 ∷ 17 ∷ []) $ free1 ! $ move ! (14 ∷ 15 ∷ []) $ free1 ! $ move ! (12 ∷ 13 ∷ []) $ free1 ! $
-                move ! (10 ∷ 11 ∷ []) $ free1 ! $ move ! (8 ∷ 9 ∷ []) $ free1 ! $ move ! (6 ∷ 7 ∷ []) $ free1 ! $ move ! (4 ∷ 5 ∷ []) $ free1 ! $ move ! (2 ∷ 3 ∷ []) $ free1 ! $ free1 ! $ free0 ! $
+                returns ! (look ! 22 refl) $ move ! (24 ∷ 25 ∷ 26 ∷ 27 ∷ []) $ frees-behind 𝓤 H A W 4 (has (bare (bare (bare (has (has (has (has (has (has (has (has none-left)))))))))))) refl $
                 by ! (exits (y .0) (y .1) (y .2) (y .3) (y .4) (y .5)))
 
           walk : ent 𝓤 (onEntry 𝓤 H A (ended .signature) (κ₀, (κ₁, tt)) (q₀, (q₁, tt)) x at) (WpFn 𝓤 H (𝓣 .C) (𝓣 .Λ) (code #begin #on) (Z .val z₀ ∷ vi ∷ vint w64 n ∷ vo ∷ []) Post)

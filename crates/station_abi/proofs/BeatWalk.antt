@@ -19,7 +19,7 @@ use contract.Lifetimes.{Lfts}
 use contract.Monad.{fact}
 use types.Kit.{Given, Go, Item, ‵, raw, _⊛_, some, given, later, runs, anyQ, atRet, Sq, _$_, _∵_, !, qed, by, move, keep, drop, use0, use1, use2, use3, split, join, pick, learn, rewrite, fsplit, fjoin, suffices, frame, await, updating, now as at-once, show, check, done}
 use types.Tokens.{lft-new, lft-end}
-use types.Run.{look, init, store, forget, stop, from, load, lit, and-then, no-more, land, land-last, of-opd, bin, addr, assigns, first, skips, jumps, blocks, branches, returns, enter, alloc1, alloc0, params1, pass1, pass0, free1, free0, exec, Below, again, loops, Walks as Ways}
+use types.Run.{look, init, store, forget, stop, from, load, lit, and-then, no-more, land, land-last, of-opd, bin, addr, assigns, first, skips, jumps, blocks, branches, returns, enter, alloc1, alloc0, params1, pass1, pass0, exec, Below, again, loops, Walks as Ways}
 use types.Part.{Part, look-in}
 use sound.WpLaws.{FmC, fmOf, WpFn-mono}
 use denote.Laws.{Is, shows}
@@ -35,6 +35,7 @@ use denote.Triple.Clauses.{Ended, Clauses, closing, Lasts, lasts, atExit}
 use denote.Triple.Walked.{Stays, stay-none, walkOf, AllGo, goes-none, ends-at, walked, walk-meets}
 use denote.Exit.{yes}
 use Rattle.motor.proofs.ThinWalk.{Held, row, still, Known, beside}
+use Rattle.lent.proofs.Frees.{has, bare, none as none-left, frees-behind}
 use Rattle.lent.proofs.Local.{env-of, locals-at, no-more-said, cell, lent-ref, lenders, lends-local, local-back}
 
 -- ---- the loop
@@ -301,8 +302,7 @@ module _ (Z P O D : Held) (left-path : List PStep) (left : D .Denot → ℕ) (On
                 again ! Nearer At y (s′, d, s-is, subst (Is (row D) d) (Dk .tells d (w ∷ []) is) is, goes-on b (y .1) d (y .4) (falls .1)) (falls .0 (ltb→lt 0 (left (y .1)) more)))))))))))))))))
                 (λ over. jumps ! $ exec ! C Λ En rest (atRet En Post) $
                 assigns ! (of-opd ! (load ! (from ! (stop !)) (look ! 8 refl))) (from ! (stop !)) (init ! 16 refl (Dk .fits (y .1) _ (y .3))) $
-                returns ! (look ! 16 refl) $ forget ! 2 refl $ forget ! 8 refl $ forget ! 10 refl $ forget ! 12 refl $ forget ! 14 refl $ forget ! 16 refl $
-                move ! (16 ∷ 17 ∷ []) $ free1 ! $ move ! (14 ∷ 15 ∷ []) $ free1 ! $ move ! (12 ∷ 13 ∷ []) $ free1 ! $ move ! (10 ∷ 11 ∷ []) $ free1 ! $ move ! (8 ∷ 9 ∷ []) $ free1 ! $ move ! (6 ∷ 7 ∷ []) $ free1 ! $ move ! (4 ∷ 5 ∷ []) $ free1 ! $ move ! (2 ∷ 3 ∷ []) $ free1 ! $ free1 ! $ free0 ! $
+                returns ! (look ! 16 refl) $ frees-behind 𝓤 H A W 0 (bare (has (bare (bare (has (has (has (has (has none-left))))))))) refl $
                 by ! (exits (y .1) (y .3) (y .4)))
 
           walk : ent 𝓤 (onEntry 𝓤 H A (ended .signature) tt tt x at) (WpFn 𝓤 H C Λ (code #asked #call #next) (Z .val z ∷ D .val b ∷ []) Post)
