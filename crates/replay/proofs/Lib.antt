@@ -1,4 +1,3 @@
-pub mod Handing
 pub mod Fits
 pub mod Turning
 pub mod Again

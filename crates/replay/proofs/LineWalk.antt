@@ -1,6 +1,6 @@
 -- A line answered on a lent station is right because a call and a look leave there, and reply, what the callee says, and any other line stores there what the by-value function answers. Of the station, of what is asked and replied and of the cursor only this is known: each has one machine value, and its relation tells it.
 use mathlib.Core.Path.{_≡_, refl, subst}
-use mathlib.Core.Bool.{Bool, true, false}
+use mathlib.Core.Bool.{Bool, true, false, not}
 use Prim.Native.Nat.{ℕ}
 use mathlib.Core.List.{[], _∷_, List}
 use lib.Dec.{T}
@@ -64,6 +64,10 @@ pub record Lines {M : Type 1} (𝓤 : URA M) (H : Heap 𝓤) (A : Atoms 𝓤) (P
 is-true : (b : Bool) → T b → b ≡ true
 is-true true t = refl
 is-true false t = absurd t
+
+is-false : (b : Bool) → T (not b) → b ≡ false
+is-false true t = absurd t
+is-false false t = refl
 
 -- Z is lent, L the line, P what it asks, O the reply, K what it looks at, X what is seen, D the cursor, R the by-value function's answer; what each callee says, and what is promised, of the station, the input, the output, the cursor, and of the last three at exit
 module _ (Z P O K X D L : Held) (R : RattleType) (νl νr : Sym) (asks : L .Denot → Bool) (asked : L .Denot → P .Denot) (time : L .Denot → ℕ) (looks : L .Denot → Bool) (key : L .Denot → K .Denot) (st : R .Denot → Z .Denot) (cur : R .Denot → D .Denot)
@@ -195,7 +199,7 @@ module _ (Z P O K X D L : Held) (R : RattleType) (νl νr : Sym) (asks : L .Deno
     module _ (W : Given 𝓤 H A) (Zk : Known 𝓤 H A Z) (Pk : Known 𝓤 H A P) (Ok : Known 𝓤 H A O) (Kk : Known 𝓤 H A K) (Xk : Known 𝓤 H A X) (Dk : Known 𝓤 H A D) (Lk : Lines 𝓤 H A P K L νl asks asked time looks key) (Rk : Answers Z D R νr st cur)
         (holds-asks : (h : Z .Denot) (xs ys : List ℕ) (c : D .Denot) (l : L .Denot) (y : O .Denot) (z : Z .Denot) (r : D .Denot) (zs : List ℕ) → Asked xs c l → asks l ≡ true → Called h (asked l) y z → Replies y l ys c r zs → Promised h xs ys c r z zs)
         (holds-looks : (h : Z .Denot) (xs ys : List ℕ) (c : D .Denot) (l : L .Denot) (y : X .Denot) (z : Z .Denot) (r : D .Denot) (zs : List ℕ) → Asked xs c l → looks l ≡ true → Looked h (key l) y z → Shows y ys c r zs → Promised h xs ys c r z zs)
-        (holds-other : (h : Z .Denot) (xs ys : List ℕ) (c : D .Denot) (v : R .Denot) (zs : List ℕ) → Takes h xs ys c v zs → Promised h xs ys c (cur v) (st v) zs) where
+        (holds-other : (h : Z .Denot) (xs ys : List ℕ) (c : D .Denot) (l : L .Denot) (v : R .Denot) (zs : List ℕ) → Asked xs c l → asks l ≡ false → looks l ≡ false → Takes h xs ys c v zs → Promised h xs ys c (cur v) (st v) zs) where
       module _ (κ₀ κ₁ κ₂ : Lft) (q₀ q₁ q₂ : Share) (b o : ℕ) (γ : GName) (h : Z .Denot) (s : RefT (List ℕ)) (n : ℕ) (b′ o′ : ℕ) (γ′ : GName) (ys : List ℕ) (c : D .Denot) where
         -- what is passed, and its machine values
         abbrev xt : RefT (Z .Denot)
@@ -403,7 +407,7 @@ module _ (Z P O K X D L : Held) (R : RattleType) (νl νr : Sym) (asks : L .Deno
                 owned ! (still D) (Is (still D)) (Dk .makes) (cur v) _ (Rk .second v w v-is) $ move ! (0 ∷ 3 ∷ 4 ∷ 1 ∷ 2 ∷ []) $
                 -- [the result; T12; the last list; T0; the station's last value; locals]
                 returns ! (look ! 43 refl) $ frees-behind 𝓤 H A W 5 (has (has (has (bare (bare (bare (bare (bare (bare (has (has (bare (bare (has (has (has (has (has (has (has (none-left))))))))))))))))))))) refl $
-                by ! (exits (cur v) (D .val (cur v)) (st v) (ws .1 .1 .1 .0) (holds-other h (s .now) ys c v (ws .1 .1 .1 .0) v-said) len)))))))))))))))))))))))))))))))))))
+                by ! (exits (cur v) (D .val (cur v)) (st v) (ws .1 .1 .1 .0) (holds-other h (s .now) ys c l v (ws .1 .1 .1 .0) l-said (is-false (asks l) not-asks) (is-false (looks l) not-looks) v-said) len)))))))))))))))))))))))))))))))))))
 
       goes : AllGo 𝓤 H A W 3 (ended .signature .params) (ended .kept) stayed
       goes = (goes-gave-ref 𝓤 H A W 3 0 tt (plain (λ _. still Z)), (goes-dropped 𝓤 H A W 3 (shrSliceOf (1 ∷ []) tt (plain (λ _. u8))) yes (λ κs x f. refl), (goes-dropped 𝓤 H A W 3 (plain (λ _. usize)) yes (λ κs x f. refl), (goes-gave-slice 𝓤 H A W 3 2 tt (plain (λ _. u8)), (goes-dropped 𝓤 H A W 3 (plain (λ _. still D)) yes (λ κs x f. refl), tt)))))

@@ -1,6 +1,6 @@
 -- What an event does to a station, and what is answered. Definitions only.
 use Prim.Native.Nat.{ℕ, _/_, _%_, _^_}
-use mathlib.Core.Bool.{Bool}
+use mathlib.Core.Bool.{Bool, true, false, cond}
 use mathlib.Core.List.{List, [], _∷_, _++_}
 use lib.ListN.{length, take}
 use Rattle.codec.specs.declared.bus.CanFrame.{CanFrame}
@@ -60,9 +60,43 @@ textAfter st (event.Frame time id v extended dlc rx) name = toldText (frameIn st
 textAfter st (event.Look id) name = lookedText (lookIn st id)
 textAfter st (event.Remove id time) name = toldText (removeIn st id time .said)
 
+-- ---- an event that is neither a call nor a look
+
+unfoldable pub isFresh : Event → Bool
+isFresh event.Nothing = false
+isFresh (event.Error reason) = false
+isFresh event.Fresh = true
+isFresh (event.Register id host wait time) = false
+isFresh (event.Start id time command) = false
+isFresh (event.Step id time) = false
+isFresh (event.Frame time id v extended dlc rx) = false
+isFresh (event.Look id) = false
+isFresh (event.Remove id time) = false
+
+-- its answer; that of a call or a look isn't told here
+unfoldable pub otherText : Event → List ℕ
+otherText event.Nothing = []
+otherText (event.Error reason) = errorText reason
+otherText event.Fresh = okText
+otherText (event.Register id host wait time) = []
+otherText (event.Start id time command) = []
+otherText (event.Step id time) = []
+otherText (event.Frame time id v extended dlc rx) = []
+otherText (event.Look id) = []
+otherText (event.Remove id time) = []
+
+-- ---- lines
+
 -- a line without its LF, and one CR at its end dropped
 abbrev pub shown : List ℕ → List ℕ
 shown line = take (shownIn line (length line)) line
+
+-- of a line that is neither a call nor a look
+unfoldable pub stationOfOther : Station → List ℕ → Station
+stationOfOther st line = cond (isFresh (eventOf (shown line))) newStation st
+
+unfoldable pub textOfOther : List ℕ → List ℕ
+textOfOther line = otherText (eventOf (shown line))
 
 abbrev pub stationAfterLine : Station → List ℕ → Station
 stationAfterLine st line = stationAfter st (eventOf (shown line)) (wordAt (shown line) 3)

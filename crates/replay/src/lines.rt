@@ -1,10 +1,7 @@
 // Standard input cut into lines, and the answers written before more is awaited.
-use crate::calls::on_line;
 use crate::turns::take_lines;
 use motor::motor::Motor;
-use station::station::Station;
 use station::station::new;
-ghost use Prim.Native.Nat.{_≤_};
 
 // What is left after the whole lines of a read: the places, how many bytes of a line that isn't whole are kept, and whether every
 // write went well.
@@ -72,31 +69,20 @@ fn whole_lines(motors: [Motor; 8], inp: &mut [u8], n: usize, out: &mut [u8]) -> 
     }
 }
 
-// The last line, where the input ends without LF.
-fn finish(motors: [Motor; 8], inp: &[u8], kept: usize, out: &mut [u8]) {
-    let st = Station { motors };
-    let at = last_line(st, inp, kept, out);
-    if !flush(out, at, true) {
+// The last line, where the input ends without LF: one is put behind it.
+fn finish(motors: [Motor; 8], inp: &mut [u8], kept: usize, out: &mut [u8]) {
+    let n = ended(inp, kept);
+    let turn = whole_lines(motors, inp, n, out);
+    if !turn.good {
         complain();
     }
 }
 
-fn last_line(st: Station, inp: &[u8], kept: usize, out: &mut [u8]) -> usize {
-    if kept <= inp.len() {
-        let went = on_line(st, &inp[..kept], out, 0);
-        return went.at;
-    }
-    0
-}
-
-// The index of the first LF at or after `from` and below n, or n.
-pub(crate) fn line_end(inp: &[u8], from: usize, n: usize) -> usize
-    ensures { λ r. ⌜ (from ≤ n → from ≤ r) ⌝ }
-{
-    if n <= inp.len() {
-        if from <= n {
-            return bytes::scan::find(inp, from, n, b'\n');
-        }
+// Puts an LF behind the first n bytes, where there is room, and answers how many there are then.
+fn ended(inp: &mut [u8], n: usize) -> usize {
+    if n < inp.len() {
+        inp[n] = b'\n';
+        return n + 1;
     }
     n
 }

@@ -1,6 +1,7 @@
 // Replay: reads a recorded session, hands each event to a station, and writes what the station answers.
-mod calls;
+mod cursor;
 mod errors;
+mod frames;
 mod lines;
 mod turns;
 

@@ -1,10 +1,14 @@
 // A line answered on the lent station: the eight places. A call and a look go to the place that they name; what replaces the
 // station, or concerns nothing of it, goes by value.
-use crate::calls::frame_of;
-use crate::calls::on_line;
+use crate::cursor::Cursor;
+use crate::cursor::first_line;
+use crate::cursor::line_in;
+use crate::cursor::next_line;
+use crate::errors::put_error;
+use crate::frames::frame_of;
 use crate::lines::flush;
-use crate::lines::line_end;
 use answers::looks::put_looked;
+use answers::said::put_ok;
 use answers::said::put_said;
 use answers::said::put_told;
 use codec::model::model_named;
@@ -20,27 +24,17 @@ use session::event::Event;
 use session::line::event_of;
 use session::line::shown;
 use station::station::Looked;
-use station::station::Station;
+use station::station::new;
 ghost use mathlib.Core.Path.{_≡_};
 ghost use mathlib.Core.Bool.{true};
 ghost use Prim.Native.Nat.{_<_};
 ghost use Rattle.codec.specs.Models.{modelNamed};
+ghost use Rattle.session.specs.Lines.{eventOf};
 ghost use Rattle.text.specs.Put.{Put};
 ghost use Rattle.answers.specs.Looks.{lookedText};
 ghost use Rattle.lent.specs.Lent.{stationOf};
 ghost use Rattle.replay.specs.Events as spec;
 ghost use Rattle.replay.specs.Turns as turn;
-
-// Where a line stands in the input, from its first byte to its LF, and where its answer goes. left falls from line to line: no
-// more of them where more is false. good is whether every write went well.
-pub struct Cursor {
-    pub from: usize,
-    pub end: usize,
-    pub at: usize,
-    pub left: usize,
-    pub more: bool,
-    pub good: bool,
-}
 
 // What a line asks of a lent station, where it is a call on a motor, and the call's time; the id, where it is a look.
 pub struct Line {
@@ -65,62 +59,6 @@ struct Room {
 
 // Where less than an answer's length is free, what stands in the buffer is written first.
 const ROOM: usize = 57344;
-
-// ---- lines
-
-// A line without its LF, and one CR at its end dropped.
-fn line_in<'a>(inp: &'a [u8], c: Cursor) -> &'a [u8]
-    ensures { λ r. ⌜ now r ≡ turn.lineAt (now (inp .entry)) (c .from) (c .end) ⌝ }
-{
-    let from = c.from;
-    let end = c.end;
-    if from <= end {
-        if end <= inp.len() {
-            return &inp[from..end];
-        }
-    }
-    &inp[0..0]
-}
-
-// The line that begins at a place, and what follows it.
-fn line_from(inp: &[u8], n: usize, from: usize, at: usize, left: usize, good: bool) -> Cursor
-    ensures { λ r. ⌜ (r .«at» ≡ «at») × (r .more ≡ true → r .left < left) ⌝ }
-{
-    let end = line_end(inp, from, n);
-    if end < n {
-        let rest = n - end;
-        if rest < left {
-            return Cursor {
-                from,
-                end,
-                at,
-                left: rest,
-                more: true,
-                good,
-            };
-        }
-    }
-    Cursor {
-        from,
-        end,
-        at,
-        left: 0,
-        more: false,
-        good,
-    }
-}
-
-pub(crate) fn first_line(inp: &[u8], n: usize) -> Cursor {
-    line_from(inp, n, 0, 0, usize::MAX, true)
-}
-
-fn next_line(inp: &[u8], n: usize, c: Cursor, at: usize, good: bool) -> Cursor
-    ensures { λ r. ⌜ (r .«at» ≡ «at») × (r .more ≡ true → r .left < c .left) ⌝ }
-{
-    let left = c.left;
-    let from = std::num::wrapping_add_usize(c.end, 1);
-    line_from(inp, n, from, at, left, good)
-}
 
 // ---- calls
 
@@ -268,16 +206,94 @@ fn put_look(looked: Looked, inp: &[u8], n: usize, out: &mut [u8], c: Cursor) -> 
     next_line(inp, n, c, p, room.good)
 }
 
-// The line at a cursor, the station by value.
+// ---- what is neither a call nor a look
+
+fn is_fresh(event: Event) -> bool
+    ensures { λ r. ⌜ r ≡ spec.isFresh event ⌝ }
+{
+    match event {
+        Event::Nothing => false,
+        Event::Error(_) => false,
+        Event::Fresh => true,
+        Event::Register {
+            id: _,
+            host: _,
+            wait: _,
+            time: _,
+        } => false,
+        Event::Start {
+            id: _,
+            time: _,
+            command: _,
+        } => false,
+        Event::Step { id: _, time: _ } => false,
+        Event::Frame {
+            time: _,
+            id: _,
+            data: _,
+            extended: _,
+            dlc: _,
+            rx: _,
+        } => false,
+        Event::Look { id: _ } => false,
+        Event::Remove { id: _, time: _ } => false,
+    }
+}
+
+fn put_other(event: Event, out: &mut [u8], at: usize) -> usize
+    ensures { λ r. ⌜ Put (now (out .entry)) «at» (spec.otherText event) (now (out .exit)) r ⌝ }
+{
+    match event {
+        Event::Nothing => at,
+        Event::Error(reason) => put_error(reason, out, at),
+        Event::Fresh => put_ok(out, at),
+        Event::Register {
+            id: _,
+            host: _,
+            wait: _,
+            time: _,
+        } => at,
+        Event::Start {
+            id: _,
+            time: _,
+            command: _,
+        } => at,
+        Event::Step { id: _, time: _ } => at,
+        Event::Frame {
+            time: _,
+            id: _,
+            data: _,
+            extended: _,
+            dlc: _,
+            rx: _,
+        } => at,
+        Event::Look { id: _ } => at,
+        Event::Remove { id: _, time: _ } => at,
+    }
+}
+
+// The event of the line at a cursor.
+fn event_in(inp: &[u8], c: Cursor) -> Event
+    ensures { λ r. ⌜ r ≡ eventOf (spec.shown (turn.lineAt (now (inp .entry)) (c .from) (c .end))) ⌝ }
+{
+    let line = line_in(inp, c);
+    let n = shown(line);
+    event_of(&line[..n])
+}
+
+// The line at a cursor, where it is neither a call nor a look: `fresh` is a new station, all else leaves it as it was.
 fn by_value(motors: [Motor; 8], inp: &[u8], n: usize, out: &mut [u8], c: Cursor) -> Taken
-    ensures { λ r. ⌜ (stationOf (r .motors) ≡ spec.stationAfterLine (stationOf motors) (turn.lineAt (now (inp .entry)) (c .from) (c .end))) × Put (now (out .entry)) (turn.roomAt (c .«at»)) (spec.textAfterLine (stationOf motors) (turn.lineAt (now (inp .entry)) (c .from) (c .end))) (now (out .exit)) (r .cursor .«at») × (r .cursor .more ≡ true → r .cursor .left < c .left) ⌝ }
+    ensures { λ r. ⌜ (stationOf (r .motors) ≡ spec.stationOfOther (stationOf motors) (turn.lineAt (now (inp .entry)) (c .from) (c .end))) × Put (now (out .entry)) (turn.roomAt (c .«at»)) (spec.textOfOther (turn.lineAt (now (inp .entry)) (c .from) (c .end))) (now (out .exit)) (r .cursor .«at») × (r .cursor .more ≡ true → r .cursor .left < c .left) ⌝ }
 {
     let room = room_for(out, c);
-    let st = Station { motors };
-    let went = on_line(st, line_in(inp, c), out, room.at);
-    let after = went.station;
-    let motors = after.motors;
-    let cursor = next_line(inp, n, c, went.at, room.good);
+    let event = event_in(inp, c);
+    let p = put_other(event, out, room.at);
+    let cursor = next_line(inp, n, c, p, room.good);
+    if is_fresh(event) {
+        let st = new();
+        let motors = st.motors;
+        return Taken { motors, cursor };
+    }
     Taken { motors, cursor }
 }
 

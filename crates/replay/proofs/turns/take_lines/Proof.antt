@@ -25,15 +25,15 @@ use Rattle.motor.specs.declared.motor.Motor.{Motor}
 use Rattle.motor.proofs.motor.Motor as motor-type
 use Rattle.motor.proofs.motor.Motor.Laws as motor-laws
 use Rattle.motor.proofs.ThinWalk as thin
-use Rattle.replay.specs.declared.turns.Cursor.{Cursor}
+use Rattle.replay.specs.declared.cursor.Cursor.{Cursor}
 use Rattle.replay.specs.declared.turns.Taken.{Taken}
-use Rattle.replay.proofs.turns.Cursor as cursor-type
-use Rattle.replay.proofs.turns.Cursor.Laws as cursor-laws
+use Rattle.replay.proofs.cursor.Cursor as cursor-type
+use Rattle.replay.proofs.cursor.Cursor.Laws as cursor-laws
 use Rattle.replay.proofs.turns.Taken as taken-type
 use Rattle.replay.proofs.turns.Taken.Laws as taken-laws
-use Rattle.replay.proofs.turns.first_line as begin
-use Rattle.replay.proofs.turns.first_line.Symbol as begin-def
-use Rattle.replay.proofs.turns.first_line.Met as begin-thm
+use Rattle.replay.proofs.cursor.first_line as begin
+use Rattle.replay.proofs.cursor.first_line.Symbol as begin-def
+use Rattle.replay.proofs.cursor.first_line.Met as begin-thm
 use Rattle.replay.proofs.turns.take_line as on
 use Rattle.replay.proofs.turns.take_line.Symbol as on-def
 use Rattle.replay.proofs.turns.take_line.Met as on-thm
@@ -100,5 +100,5 @@ take-lines-spec 𝓤 H 𝓜 𝓖 𝓡 =
     entered 𝓤 H (tripleOf 𝓤 H (𝓖 .A) own.signature (own.spec 𝓤 H (𝓖 .A) (𝓜 .mem) (𝓡 .run)))
     (tables 𝓤 H 𝓜 𝓡 code.env .C) (tables 𝓤 H 𝓜 𝓡 code.env .Λ) key.name code.function (code.unfolded 𝓤 H 𝓜 𝓡)
     (meets 𝓤 H (𝓖 .A) (𝓜 .mem) (𝓡 .run) (givenOf 𝓤 H 𝓜 𝓖) (tablesOf 𝓤 H 𝓜 (tables 𝓤 H 𝓜 𝓡 code.env))
-    (cited 𝓤 H (tripleOf 𝓤 H (𝓖 .A) begin.signature (begin.spec 𝓤 H (𝓖 .A) (𝓜 .mem) (𝓡 .run))) 𝓜 𝓡 code.env begin-def.name begin-def.routine code.calls-replay·turns·first-line (begin-thm.met 𝓤 H 𝓜 𝓖 𝓡))
+    (cited 𝓤 H (tripleOf 𝓤 H (𝓖 .A) begin.signature (begin.spec 𝓤 H (𝓖 .A) (𝓜 .mem) (𝓡 .run))) 𝓜 𝓡 code.env begin-def.name begin-def.routine code.calls-replay·cursor·first-line (begin-thm.met 𝓤 H 𝓜 𝓖 𝓡))
     (cited 𝓤 H (tripleOf 𝓤 H (𝓖 .A) on.signature (on.spec 𝓤 H (𝓖 .A) (𝓜 .mem) (𝓡 .run))) 𝓜 𝓡 code.env on-def.name on-def.routine code.calls-replay·turns·take-line (on-thm.met 𝓤 H 𝓜 𝓖 𝓡)))

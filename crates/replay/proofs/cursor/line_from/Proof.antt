@@ -2,8 +2,8 @@
 use mathlib.Core.Path.{refl, sym}
 use mathlib.Core.Bool.{true≢false}
 use borrow.Author.Needs.{needs}
-use Rattle.replay.proofs.turns.line_from.Statement.{statement}
-use Rattle.replay.proofs.turns.line_from.Tie as tie
+use Rattle.replay.proofs.cursor.line_from.Statement.{statement}
+use Rattle.replay.proofs.cursor.line_from.Tie as tie
 
 line-end-requires : tie.Need-line-end-requires
 line-end-requires c κs = search needs

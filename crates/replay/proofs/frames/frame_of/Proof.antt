@@ -1,7 +1,7 @@
 -- Right because the fields are those given.
 use borrow.Author.Needs.{needs}
-use Rattle.replay.proofs.calls.frame_of.Statement.{statement}
-use Rattle.replay.proofs.calls.frame_of.Tie as tie
+use Rattle.replay.proofs.frames.frame_of.Statement.{statement}
+use Rattle.replay.proofs.frames.frame_of.Tie as tie
 
 payload-requires : tie.Need-payload-requires
 payload-requires c κs = search needs

@@ -3,8 +3,8 @@ use mathlib.Core.Logic.{⊎-elim}
 use borrow.Author.Tests.{le-leb, lt-leb}
 use Rattle.replay.specs.Turns.{lineAt}
 use borrow.Author.Needs.{needs}
-use Rattle.replay.proofs.turns.line_in.Statement.{statement}
-use Rattle.replay.proofs.turns.line_in.Tie as tie
+use Rattle.replay.proofs.cursor.line_in.Statement.{statement}
+use Rattle.replay.proofs.cursor.line_in.Tie as tie
 
 part-result-start : tie.Need-part-result-start
 part-result-start c = search needs

@@ -1,7 +1,7 @@
 -- Right because each byte is the low one of a shifted number.
 use borrow.Author.Needs.{needs}
-use Rattle.replay.proofs.calls.payload.Statement.{statement}
-use Rattle.replay.proofs.calls.payload.Tie as tie
+use Rattle.replay.proofs.frames.payload.Statement.{statement}
+use Rattle.replay.proofs.frames.payload.Tie as tie
 
 low-requires : tie.Need-low-requires
 low-requires c κs = search needs

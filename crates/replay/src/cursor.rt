@@ -1,0 +1,84 @@
+// The lines of the input, one after the other.
+ghost use mathlib.Core.Path.{_≡_};
+ghost use mathlib.Core.Bool.{true};
+ghost use Prim.Native.Nat.{_≤_, _<_};
+ghost use Rattle.replay.specs.Turns as turn;
+
+// Where a line stands in the input, from its first byte to its LF, and where its answer goes. left falls from line to line: no
+// more of them where more is false. good is whether every write went well.
+pub struct Cursor {
+    pub from: usize,
+    pub end: usize,
+    pub at: usize,
+    pub left: usize,
+    pub more: bool,
+    pub good: bool,
+}
+
+// The bytes of a line, without its LF.
+pub(crate) fn line_in<'a>(inp: &'a [u8], c: Cursor) -> &'a [u8]
+    ensures { λ r. ⌜ now r ≡ turn.lineAt (now (inp .entry)) (c .from) (c .end) ⌝ }
+{
+    let from = c.from;
+    let end = c.end;
+    if from <= end {
+        if end <= inp.len() {
+            return &inp[from..end];
+        }
+    }
+    &inp[0..0]
+}
+
+// The index of the first LF at or after `from` and below n, or n.
+fn line_end(inp: &[u8], from: usize, n: usize) -> usize
+    ensures { λ r. ⌜ (from ≤ n → from ≤ r) ⌝ }
+{
+    if n <= inp.len() {
+        if from <= n {
+            return bytes::scan::find(inp, from, n, b'\n');
+        }
+    }
+    n
+}
+
+// The line that begins at a place, and what follows it.
+fn line_from(inp: &[u8], n: usize, from: usize, at: usize, left: usize, good: bool) -> Cursor
+    ensures { λ r. ⌜ (r .«at» ≡ «at») × (r .more ≡ true → r .left < left) ⌝ }
+{
+    let end = line_end(inp, from, n);
+    if end < n {
+        let rest = n - end;
+        if rest < left {
+            return Cursor {
+                from,
+                end,
+                at,
+                left: rest,
+                more: true,
+                good,
+            };
+        }
+    }
+    Cursor {
+        from,
+        end,
+        at,
+        left: 0,
+        more: false,
+        good,
+    }
+}
+
+// The first line.
+pub(crate) fn first_line(inp: &[u8], n: usize) -> Cursor {
+    line_from(inp, n, 0, 0, usize::MAX, true)
+}
+
+// The line after this one.
+pub(crate) fn next_line(inp: &[u8], n: usize, c: Cursor, at: usize, good: bool) -> Cursor
+    ensures { λ r. ⌜ (r .«at» ≡ «at») × (r .more ≡ true → r .left < c .left) ⌝ }
+{
+    let left = c.left;
+    let from = std::num::wrapping_add_usize(c.end, 1);
+    line_from(inp, n, from, at, left, good)
+}
