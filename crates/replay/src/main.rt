@@ -3,6 +3,7 @@ mod cursor;
 mod errors;
 mod frames;
 mod lines;
+mod others;
 mod turns;
 
 fn main() {

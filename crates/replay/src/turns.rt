@@ -4,11 +4,11 @@ use crate::cursor::Cursor;
 use crate::cursor::first_line;
 use crate::cursor::line_in;
 use crate::cursor::next_line;
-use crate::errors::put_error;
 use crate::frames::frame_of;
 use crate::lines::flush;
+use crate::others::is_fresh;
+use crate::others::put_other;
 use answers::looks::put_looked;
-use answers::said::put_ok;
 use answers::said::put_said;
 use answers::said::put_told;
 use codec::model::model_named;
@@ -207,70 +207,6 @@ fn put_look(looked: Looked, inp: &[u8], n: usize, out: &mut [u8], c: Cursor) -> 
 }
 
 // ---- what is neither a call nor a look
-
-fn is_fresh(event: Event) -> bool
-    ensures { λ r. ⌜ r ≡ spec.isFresh event ⌝ }
-{
-    match event {
-        Event::Nothing => false,
-        Event::Error(_) => false,
-        Event::Fresh => true,
-        Event::Register {
-            id: _,
-            host: _,
-            wait: _,
-            time: _,
-        } => false,
-        Event::Start {
-            id: _,
-            time: _,
-            command: _,
-        } => false,
-        Event::Step { id: _, time: _ } => false,
-        Event::Frame {
-            time: _,
-            id: _,
-            data: _,
-            extended: _,
-            dlc: _,
-            rx: _,
-        } => false,
-        Event::Look { id: _ } => false,
-        Event::Remove { id: _, time: _ } => false,
-    }
-}
-
-fn put_other(event: Event, out: &mut [u8], at: usize) -> usize
-    ensures { λ r. ⌜ Put (now (out .entry)) «at» (spec.otherText event) (now (out .exit)) r ⌝ }
-{
-    match event {
-        Event::Nothing => at,
-        Event::Error(reason) => put_error(reason, out, at),
-        Event::Fresh => put_ok(out, at),
-        Event::Register {
-            id: _,
-            host: _,
-            wait: _,
-            time: _,
-        } => at,
-        Event::Start {
-            id: _,
-            time: _,
-            command: _,
-        } => at,
-        Event::Step { id: _, time: _ } => at,
-        Event::Frame {
-            time: _,
-            id: _,
-            data: _,
-            extended: _,
-            dlc: _,
-            rx: _,
-        } => at,
-        Event::Look { id: _ } => at,
-        Event::Remove { id: _, time: _ } => at,
-    }
-}
 
 // The event of the line at a cursor.
 fn event_in(inp: &[u8], c: Cursor) -> Event

@@ -2,8 +2,8 @@
 use Rattle.text.proofs.Putting.{put-nil}
 use Rattle.replay.specs.Events.{otherText}
 use borrow.Author.Needs.{needs}
-use Rattle.replay.proofs.turns.put_other.Statement.{statement}
-use Rattle.replay.proofs.turns.put_other.Tie as tie
+use Rattle.replay.proofs.others.put_other.Statement.{statement}
+use Rattle.replay.proofs.others.put_other.Tie as tie
 
 enum-told : tie.Need-enum-told
 enum-told c = search needs

@@ -1,8 +1,8 @@
 -- Right because each arm is the definition's.
 use Rattle.replay.specs.Events.{isFresh}
 use borrow.Author.Needs.{needs}
-use Rattle.replay.proofs.turns.is_fresh.Statement.{statement}
-use Rattle.replay.proofs.turns.is_fresh.Tie as tie
+use Rattle.replay.proofs.others.is_fresh.Statement.{statement}
+use Rattle.replay.proofs.others.is_fresh.Tie as tie
 
 enum-told : tie.Need-enum-told
 enum-told c = search needs
