@@ -1,5 +1,6 @@
 pub mod Fits
 pub mod Turning
+pub mod Cursors
 pub mod Again
 pub mod LoopWalk
 pub mod LineWalk

@@ -71,9 +71,9 @@ is-false false t = refl
 
 -- Z is lent, L the line, P what it asks, O the reply, K what it looks at, X what is seen, D the cursor, R the by-value function's answer; what each callee says, and what is promised, of the station, the input, the output, the cursor, and of the last three at exit
 module _ (Z P O K X D L : Held) (R : RattleType) (νl νr : Sym) (asks : L .Denot → Bool) (asked : L .Denot → P .Denot) (time : L .Denot → ℕ) (looks : L .Denot → Bool) (key : L .Denot → K .Denot) (st : R .Denot → Z .Denot) (cur : R .Denot → D .Denot)
-    (Asked : List ℕ → D .Denot → L .Denot → Type 0) (Called : Z .Denot → P .Denot → O .Denot → Z .Denot → Type 0) (Replies : O .Denot → L .Denot → List ℕ → D .Denot → D .Denot → List ℕ → Type 0)
-    (Looked : Z .Denot → K .Denot → X .Denot → Z .Denot → Type 0) (Shows : X .Denot → List ℕ → D .Denot → D .Denot → List ℕ → Type 0)
-    (Takes : Z .Denot → List ℕ → List ℕ → D .Denot → R .Denot → List ℕ → Type 0) (Promised : Z .Denot → List ℕ → List ℕ → D .Denot → D .Denot → Z .Denot → List ℕ → Type 0) where
+    (Asked : List ℕ → D .Denot → L .Denot → Type 0) (Called : Z .Denot → P .Denot → O .Denot → Z .Denot → Type 0) (Replies : O .Denot → L .Denot → List ℕ → ℕ → List ℕ → D .Denot → D .Denot → List ℕ → Type 0)
+    (Looked : Z .Denot → K .Denot → X .Denot → Z .Denot → Type 0) (Shows : X .Denot → List ℕ → ℕ → List ℕ → D .Denot → D .Denot → List ℕ → Type 0)
+    (Takes : Z .Denot → List ℕ → ℕ → List ℕ → D .Denot → R .Denot → List ℕ → Type 0) (Promised : Z .Denot → List ℕ → ℕ → List ℕ → D .Denot → D .Denot → Z .Denot → List ℕ → Type 0) where
   abbrev line : RattleType
   line = lineRow νl P K L
 
@@ -158,7 +158,7 @@ module _ (Z P O K X D L : Held) (R : RattleType) (νl νr : Sym) (asks : L .Deno
 
   module _ {M : Type 1} (𝓤 : URA M) (H : Heap 𝓤) (A : Atoms 𝓤) where
     abbrev pub clauses : Clauses 𝓤 ended
-    clauses κs a = record { ghost = U; requires = λ _. emp 𝓤; ensures = λ _ r end. fact 𝓤 (Promised (now (a .0)) (now (a .1 .0)) (now (a .1 .1 .1 .0)) (a .1 .1 .1 .1 .0) r (now (end .0)) (now (end .1 .1 .1 .0))) }
+    clauses κs a = record { ghost = U; requires = λ _. emp 𝓤; ensures = λ _ r end. fact 𝓤 (Promised (now (a .0)) (now (a .1 .0)) (a .1 .1 .0) (now (a .1 .1 .1 .0)) (a .1 .1 .1 .1 .0) r (now (end .0)) (now (end .1 .1 .1 .0))) }
 
     abbrev asked-clauses : Clauses 𝓤 asked-ended
     asked-clauses κs a = record { ghost = U; requires = λ _. emp 𝓤; ensures = λ _ r end. fact 𝓤 (Asked (now (a .0)) (a .1 .0) r) }
@@ -167,16 +167,16 @@ module _ (Z P O K X D L : Held) (R : RattleType) (νl νr : Sym) (asks : L .Deno
     call-clauses κs a = record { ghost = U; requires = λ _. emp 𝓤; ensures = λ _ r end. fact 𝓤 (Called (now (a .0)) (a .1 .0) r (now (end .0))) }
 
     abbrev reply-clauses : Clauses 𝓤 reply-ended
-    reply-clauses κs a = record { ghost = U; requires = λ _. emp 𝓤; ensures = λ _ r end. fact 𝓤 (Replies (a .0) (a .1 .0) (now (a .1 .1 .1 .1 .0)) (a .1 .1 .1 .1 .1 .0) r (now (end .1 .1 .1 .1 .0))) }
+    reply-clauses κs a = record { ghost = U; requires = λ _. emp 𝓤; ensures = λ _ r end. fact 𝓤 (Replies (a .0) (a .1 .0) (now (a .1 .1 .0)) (a .1 .1 .1 .0) (now (a .1 .1 .1 .1 .0)) (a .1 .1 .1 .1 .1 .0) r (now (end .1 .1 .1 .1 .0))) }
 
     abbrev look-clauses : Clauses 𝓤 look-ended
     look-clauses κs a = record { ghost = U; requires = λ _. emp 𝓤; ensures = λ _ r end. fact 𝓤 (Looked (now (a .0)) (a .1 .0) r (now (end .0))) }
 
     abbrev show-clauses : Clauses 𝓤 show-ended
-    show-clauses κs a = record { ghost = U; requires = λ _. emp 𝓤; ensures = λ _ r end. fact 𝓤 (Shows (a .0) (now (a .1 .1 .1 .0)) (a .1 .1 .1 .1 .0) r (now (end .1 .1 .1 .0))) }
+    show-clauses κs a = record { ghost = U; requires = λ _. emp 𝓤; ensures = λ _ r end. fact 𝓤 (Shows (a .0) (now (a .1 .0)) (a .1 .1 .0) (now (a .1 .1 .1 .0)) (a .1 .1 .1 .1 .0) r (now (end .1 .1 .1 .0))) }
 
     abbrev value-clauses : Clauses 𝓤 value-ended
-    value-clauses κs a = record { ghost = U; requires = λ _. emp 𝓤; ensures = λ _ r end. fact 𝓤 (Takes (a .0) (now (a .1 .0)) (now (a .1 .1 .1 .0)) (a .1 .1 .1 .1 .0) r (now (end .1 .1 .1 .0))) }
+    value-clauses κs a = record { ghost = U; requires = λ _. emp 𝓤; ensures = λ _ r end. fact 𝓤 (Takes (a .0) (now (a .1 .0)) (a .1 .1 .0) (now (a .1 .1 .1 .0)) (a .1 .1 .1 .1 .0) r (now (end .1 .1 .1 .0))) }
 
     abbrev CAsked : Contract 𝓤
     CAsked = tripleOf 𝓤 H A (asked-ended .signature) (closing 𝓤 H A asked-ended asked-clauses)
@@ -197,9 +197,9 @@ module _ (Z P O K X D L : Held) (R : RattleType) (νl νr : Sym) (asks : L .Deno
     CValue = tripleOf 𝓤 H A (value-ended .signature) (closing 𝓤 H A value-ended value-clauses)
 
     module _ (W : Given 𝓤 H A) (Zk : Known 𝓤 H A Z) (Pk : Known 𝓤 H A P) (Ok : Known 𝓤 H A O) (Kk : Known 𝓤 H A K) (Xk : Known 𝓤 H A X) (Dk : Known 𝓤 H A D) (Lk : Lines 𝓤 H A P K L νl asks asked time looks key) (Rk : Answers Z D R νr st cur)
-        (holds-asks : (h : Z .Denot) (xs ys : List ℕ) (c : D .Denot) (l : L .Denot) (y : O .Denot) (z : Z .Denot) (r : D .Denot) (zs : List ℕ) → Asked xs c l → asks l ≡ true → Called h (asked l) y z → Replies y l ys c r zs → Promised h xs ys c r z zs)
-        (holds-looks : (h : Z .Denot) (xs ys : List ℕ) (c : D .Denot) (l : L .Denot) (y : X .Denot) (z : Z .Denot) (r : D .Denot) (zs : List ℕ) → Asked xs c l → looks l ≡ true → Looked h (key l) y z → Shows y ys c r zs → Promised h xs ys c r z zs)
-        (holds-other : (h : Z .Denot) (xs ys : List ℕ) (c : D .Denot) (l : L .Denot) (v : R .Denot) (zs : List ℕ) → Asked xs c l → asks l ≡ false → looks l ≡ false → Takes h xs ys c v zs → Promised h xs ys c (cur v) (st v) zs) where
+        (holds-asks : (h : Z .Denot) (xs : List ℕ) (n : ℕ) (ys : List ℕ) (c : D .Denot) (l : L .Denot) (y : O .Denot) (z : Z .Denot) (r : D .Denot) (zs : List ℕ) → Asked xs c l → asks l ≡ true → Called h (asked l) y z → Replies y l xs n ys c r zs → Promised h xs n ys c r z zs)
+        (holds-looks : (h : Z .Denot) (xs : List ℕ) (n : ℕ) (ys : List ℕ) (c : D .Denot) (l : L .Denot) (y : X .Denot) (z : Z .Denot) (r : D .Denot) (zs : List ℕ) → Asked xs c l → looks l ≡ true → Looked h (key l) y z → Shows y xs n ys c r zs → Promised h xs n ys c r z zs)
+        (holds-other : (h : Z .Denot) (xs : List ℕ) (n : ℕ) (ys : List ℕ) (c : D .Denot) (l : L .Denot) (v : R .Denot) (zs : List ℕ) → Asked xs c l → asks l ≡ false → looks l ≡ false → Takes h xs n ys c v zs → Promised h xs n ys c (cur v) (st v) zs) where
       module _ (κ₀ κ₁ κ₂ : Lft) (q₀ q₁ q₂ : Share) (b o : ℕ) (γ : GName) (h : Z .Denot) (s : RefT (List ℕ)) (n : ℕ) (b′ o′ : ℕ) (γ′ : GName) (ys : List ℕ) (c : D .Denot) where
         -- what is passed, and its machine values
         abbrev xt : RefT (Z .Denot)
@@ -242,7 +242,7 @@ module _ (Z P O K X D L : Held) (R : RattleType) (νl νr : Sym) (asks : L .Deno
         abbrev IO : Item 𝓤
         IO = ‵ (fsep Own-inp (MutSlice (named 2) κ₂ u8 .own xo (ov ∷ [])))
 
-        exits : (r : D .Denot) (w : Val) (z : Z .Denot) (zs : List ℕ) → Promised h (s .now) ys c r z zs → length zs ≡ length ys
+        exits : (r : D .Denot) (w : Val) (z : Z .Denot) (zs : List ℕ) → Promised h (s .now) n ys c r z zs → length zs ≡ length ys
             → ent 𝓤 (⋆ 𝓤 H A (‵ (D .own r (w ∷ [])) ∷ T12 ∷ ‵ (finally u8 γ′ zs) ∷ T0 ∷ ‵ (fres γ (Z .coded .code z)) ∷ [])) (Post w)
         exits r w z zs e l =
             qed W (‵ (D .own r (w ∷ [])) ∷ T12 ∷ ‵ (finally u8 γ′ zs) ∷ T0 ∷ ‵ (fres γ (Z .coded .code z)) ∷ []) ∵
@@ -345,13 +345,13 @@ module _ (Z P O K X D L : Held) (R : RattleType) (νl νr : Sym) (asks : L .Deno
                 move ! (3 ∷ 0 ∷ 4 ∷ []) $ use3 W (raw (CReply .pre (to-reply y l v))) (goes-reply y l v (subst (Is line l) (Lk .tells l u is) is)) $
                 calls-at ! fm CReply known-reply (to-reply y l v) (and-then ! (load ! (from ! (stop !)) (look ! 27 refl)) (and-then ! (load ! (from ! (stop !)) (look ! 29 refl)) (and-then ! (load ! (from ! (stop !)) (look ! 37 refl)) (and-then ! (load ! (from ! (stop !)) (look ! 35 refl)) (and-then ! (load ! (from ! (stop !)) (look ! 15 refl)) (and-then ! (load ! (from ! (stop !)) (look ! 31 refl)) (no-more !))))))) (λ w.
                 use1 W (later (some (λ (r : D .Denot). (T12 ⊛ ‵ (D .own r (w ∷ []))) ⊛ raw (ensured 𝓤 H A reply-ended reply-clauses (κ₁, (κ₂, tt)) (reply-args y l) tt r)))) (id⊢ 𝓤 _) $ await ! tt $ pick ! (λ r.
-                split ! $ move ! (1 ∷ []) $ use1 W (some (λ (ws : U × (U × (U × (U × (List ℕ × (U × U)))))). ‵ (lasts reply-ended (κ₁, (κ₂, tt)) (reply-args y l) ws) ⊛ raw (fact 𝓤 (Replies y l ys c r (ws .1 .1 .1 .1 .0))))) (id⊢ 𝓤 _) $ pick ! (λ ws.
-                split ! $ move ! (1 ∷ []) $ heard ! (Replies y l ys c r (ws .1 .1 .1 .1 .0)) (λ r-said. fsplit ! $ drop ! $ fsplit ! $ drop ! $ fsplit ! $ drop ! $ fsplit ! $ drop ! $ fsplit ! $ fsplit ! $ move ! (1 ∷ []) $ feqL ! (λ len.
+                split ! $ move ! (1 ∷ []) $ use1 W (some (λ (ws : U × (U × (U × (U × (List ℕ × (U × U)))))). ‵ (lasts reply-ended (κ₁, (κ₂, tt)) (reply-args y l) ws) ⊛ raw (fact 𝓤 (Replies y l (s .now) n ys c r (ws .1 .1 .1 .1 .0))))) (id⊢ 𝓤 _) $ pick ! (λ ws.
+                split ! $ move ! (1 ∷ []) $ heard ! (Replies y l (s .now) n ys c r (ws .1 .1 .1 .1 .0)) (λ r-said. fsplit ! $ drop ! $ fsplit ! $ drop ! $ fsplit ! $ drop ! $ fsplit ! $ drop ! $ fsplit ! $ fsplit ! $ move ! (1 ∷ []) $ feqL ! (λ len.
                 move ! (1 ∷ []) $ drop ! $ move ! (1 ∷ []) $ split ! $ move ! (1 ∷ []) $
                 -- [the result; T12; the last list; T0; the station's last value; locals]
                 peeks ! (still D) (Is (still D)) (shows 𝓤 H A (still D)) r (w ∷ []) (λ r-is. land ! (from ! (stop !)) (init ! 43 refl (Dk .fits r w r-is)) $
                 returns-within ! Post refl (look ! 43 refl) $ frees-behind 𝓤 H A W 5 (bare (bare (bare (bare (bare (bare (has (has (has (has (bare (bare (has (has (has (has (has (has (has (has (none-left))))))))))))))))))))) refl $
-                by ! (exits r w (z .0) (ws .1 .1 .1 .1 .0) (holds-asks h (s .now) ys c l y (z .0) r (ws .1 .1 .1 .1 .0) l-said (is-true (asks l) yes-asks) y-said r-said) len)))))))))))))
+                by ! (exits r w (z .0) (ws .1 .1 .1 .1 .0) (holds-asks h (s .now) n ys c l y (z .0) r (ws .1 .1 .1 .1 .0) l-said (is-true (asks l) yes-asks) y-said r-said) len)))))))))))))
                 -- whether it looks
                 (λ not-asks. let E : Env 𝓤 H = (D .ty, l0) ∷ (tyRef (named 0) mut (pointee (Z .written)), l1) ∷ (sliceTy (tyRef (named 1) imm (tyInt w8)), l2) ∷ (tyInt w64, l3) ∷ (sliceTy (tyRef (named 2) mut (tyInt w8)), l4) ∷ (D .ty, l5) ∷ (lineTy, l6) ∷ (O .ty, l7) ∷ (X .ty, l8) ∷ (answerTy νr Z D, l9) ∷ (tyBool, l10) ∷ (tyRef erased mut (pointee (Z .written)), l11) ∷ (tyRef erased mut (tyInt w8), l12) ∷ (lentTy, l13) ∷ (tyRef erased mut (pointee (Z .written)), l14) ∷ (tyRef erased mut (tyInt w8), l15) ∷ (lentTy, l16) ∷ (Z .ty, l17) ∷ (tyRef erased mut (tyInt w8), l18) ∷ (lentTy, l19) ∷ [] in
                 skips ! $ exec ! C Λ E (rest-code #look #show #value) (atRet E Post) $
@@ -372,13 +372,13 @@ module _ (Z P O K X D L : Held) (R : RattleType) (νl νr : Sym) (asks : L .Deno
                 move ! (3 ∷ 0 ∷ 4 ∷ []) $ use3 W (raw (CShow .pre (to-show y v))) (goes-show y v) $
                 calls-at ! fm CShow known-show (to-show y v) (and-then ! (load ! (from ! (stop !)) (look ! 25 refl)) (and-then ! (load ! (from ! (stop !)) (look ! 37 refl)) (and-then ! (load ! (from ! (stop !)) (look ! 35 refl)) (and-then ! (load ! (from ! (stop !)) (look ! 9 refl)) (and-then ! (load ! (from ! (stop !)) (look ! 31 refl)) (no-more !)))))) (λ w.
                 use1 W (later (some (λ (r : D .Denot). (T12 ⊛ ‵ (D .own r (w ∷ []))) ⊛ raw (ensured 𝓤 H A show-ended show-clauses (κ₁, (κ₂, tt)) (show-args y) tt r)))) (id⊢ 𝓤 _) $ await ! tt $ pick ! (λ r.
-                split ! $ move ! (1 ∷ []) $ use1 W (some (λ (ws : U × (U × (U × (List ℕ × (U × U))))). ‵ (lasts show-ended (κ₁, (κ₂, tt)) (show-args y) ws) ⊛ raw (fact 𝓤 (Shows y ys c r (ws .1 .1 .1 .0))))) (id⊢ 𝓤 _) $ pick ! (λ ws.
-                split ! $ move ! (1 ∷ []) $ heard ! (Shows y ys c r (ws .1 .1 .1 .0)) (λ r-said. fsplit ! $ drop ! $ fsplit ! $ drop ! $ fsplit ! $ drop ! $ fsplit ! $ fsplit ! $ move ! (1 ∷ []) $ feqL ! (λ len.
+                split ! $ move ! (1 ∷ []) $ use1 W (some (λ (ws : U × (U × (U × (List ℕ × (U × U))))). ‵ (lasts show-ended (κ₁, (κ₂, tt)) (show-args y) ws) ⊛ raw (fact 𝓤 (Shows y (s .now) n ys c r (ws .1 .1 .1 .0))))) (id⊢ 𝓤 _) $ pick ! (λ ws.
+                split ! $ move ! (1 ∷ []) $ heard ! (Shows y (s .now) n ys c r (ws .1 .1 .1 .0)) (λ r-said. fsplit ! $ drop ! $ fsplit ! $ drop ! $ fsplit ! $ drop ! $ fsplit ! $ fsplit ! $ move ! (1 ∷ []) $ feqL ! (λ len.
                 move ! (1 ∷ []) $ drop ! $ move ! (1 ∷ []) $ split ! $ move ! (1 ∷ []) $
                 -- [the result; T12; the last list; T0; the station's last value; locals]
                 peeks ! (still D) (Is (still D)) (shows 𝓤 H A (still D)) r (w ∷ []) (λ r-is. land ! (from ! (stop !)) (init ! 43 refl (Dk .fits r w r-is)) $
                 returns-within ! Post refl (look ! 43 refl) $ frees-behind 𝓤 H A W 5 (bare (bare (bare (has (has (has (bare (bare (bare (has (bare (has (bare (has (has (has (has (has (has (has (none-left))))))))))))))))))))) refl $
-                by ! (exits r w (z .0) (ws .1 .1 .1 .0) (holds-looks h (s .now) ys c l y (z .0) r (ws .1 .1 .1 .0) l-said (is-true (looks l) yes-looks) y-said r-said) len)))))))))))))
+                by ! (exits r w (z .0) (ws .1 .1 .1 .0) (holds-looks h (s .now) n ys c l y (z .0) r (ws .1 .1 .1 .0) l-said (is-true (looks l) yes-looks) y-said r-said) len)))))))))))))
                 (λ not-looks.
                 skips ! $ exec ! C Λ E (other-arm #value) (atRet E Post) $
                 -- the borrow is opened
@@ -392,8 +392,8 @@ module _ (Z P O K X D L : Held) (R : RattleType) (νl νr : Sym) (asks : L .Deno
                 move ! (4 ∷ 5 ∷ []) $ use2 W (raw (CValue .pre to-value)) (goes-value g) $
                 calls-at ! fm CValue known-value to-value (and-then ! (load ! (from ! (stop !)) (look ! 9 refl)) (and-then ! (load ! (from ! (stop !)) (look ! 39 refl)) (and-then ! (load ! (from ! (stop !)) (look ! 37 refl)) (and-then ! (load ! (from ! (stop !)) (look ! 5 refl)) (and-then ! (load ! (from ! (stop !)) (look ! 33 refl)) (no-more !)))))) (λ w.
                 use1 W (later (some (λ (v : R .Denot). (T12 ⊛ ‵ (R .own v (w ∷ []))) ⊛ raw (ensured 𝓤 H A value-ended value-clauses (κ₁, (κ₂, tt)) value-args tt v)))) (id⊢ 𝓤 _) $ await ! tt $ pick ! (λ v.
-                split ! $ move ! (1 ∷ []) $ use1 W (some (λ (ws : U × (U × (U × (List ℕ × (U × U))))). ‵ (lasts value-ended (κ₁, (κ₂, tt)) value-args ws) ⊛ raw (fact 𝓤 (Takes h (s .now) ys c v (ws .1 .1 .1 .0))))) (id⊢ 𝓤 _) $ pick ! (λ ws.
-                split ! $ move ! (1 ∷ []) $ heard ! (Takes h (s .now) ys c v (ws .1 .1 .1 .0)) (λ v-said. fsplit ! $ drop ! $ fsplit ! $ drop ! $ fsplit ! $ drop ! $ fsplit ! $ fsplit ! $ move ! (1 ∷ []) $ feqL ! (λ len.
+                split ! $ move ! (1 ∷ []) $ use1 W (some (λ (ws : U × (U × (U × (List ℕ × (U × U))))). ‵ (lasts value-ended (κ₁, (κ₂, tt)) value-args ws) ⊛ raw (fact 𝓤 (Takes h (s .now) n ys c v (ws .1 .1 .1 .0))))) (id⊢ 𝓤 _) $ pick ! (λ ws.
+                split ! $ move ! (1 ∷ []) $ heard ! (Takes h (s .now) n ys c v (ws .1 .1 .1 .0)) (λ v-said. fsplit ! $ drop ! $ fsplit ! $ drop ! $ fsplit ! $ drop ! $ fsplit ! $ fsplit ! $ move ! (1 ∷ []) $ feqL ! (λ len.
                 move ! (1 ∷ []) $ drop ! $ move ! (1 ∷ []) $ split ! $ move ! (1 ∷ []) $
                 -- [the answer; T12; the last list; the cell; the open borrow; obs; auth; locals]
                 peeks ! R (Is R) (shows 𝓤 H A R) v (w ∷ []) (λ v-is.
@@ -407,7 +407,7 @@ module _ (Z P O K X D L : Held) (R : RattleType) (νl νr : Sym) (asks : L .Deno
                 owned ! (still D) (Is (still D)) (Dk .makes) (cur v) _ (Rk .second v w v-is) $ move ! (0 ∷ 3 ∷ 4 ∷ 1 ∷ 2 ∷ []) $
                 -- [the result; T12; the last list; T0; the station's last value; locals]
                 returns ! (look ! 43 refl) $ frees-behind 𝓤 H A W 5 (has (has (has (bare (bare (bare (bare (bare (bare (has (has (bare (bare (has (has (has (has (has (has (has (none-left))))))))))))))))))))) refl $
-                by ! (exits (cur v) (D .val (cur v)) (st v) (ws .1 .1 .1 .0) (holds-other h (s .now) ys c l v (ws .1 .1 .1 .0) l-said (is-false (asks l) not-asks) (is-false (looks l) not-looks) v-said) len)))))))))))))))))))))))))))))))))))
+                by ! (exits (cur v) (D .val (cur v)) (st v) (ws .1 .1 .1 .0) (holds-other h (s .now) n ys c l v (ws .1 .1 .1 .0) l-said (is-false (asks l) not-asks) (is-false (looks l) not-looks) v-said) len)))))))))))))))))))))))))))))))))))
 
       goes : AllGo 𝓤 H A W 3 (ended .signature .params) (ended .kept) stayed
       goes = (goes-gave-ref 𝓤 H A W 3 0 tt (plain (λ _. still Z)), (goes-dropped 𝓤 H A W 3 (shrSliceOf (1 ∷ []) tt (plain (λ _. u8))) yes (λ κs x f. refl), (goes-dropped 𝓤 H A W 3 (plain (λ _. usize)) yes (λ κs x f. refl), (goes-gave-slice 𝓤 H A W 3 2 tt (plain (λ _. u8)), (goes-dropped 𝓤 H A W 3 (plain (λ _. still D)) yes (λ κs x f. refl), tt)))))

@@ -1,5 +1,5 @@
 -- A line as a call or a look on a lent station, and its answer's text. Definitions only.
-use Prim.Native.Nat.{ℕ, _-_}
+use Prim.Native.Nat.{ℕ, _+_, _-_, _%_, _^_}
 use mathlib.Core.Bool.{Bool, true, false, cond}
 use mathlib.Core.List.{List, []}
 use lib.Dec.{ltb, leb}
@@ -17,13 +17,31 @@ use Rattle.lent.specs.declared.call.Reply.{Reply}
 use Rattle.lent.specs.declared.call.Reply.the-variants as reply
 use Rattle.lent.specs.declared.call.Replied.{Replied}
 use Rattle.answers.specs.Said.{toldText, saidText}
+use Rattle.bytes.specs.Bytes.{slice, indexOf}
 use Rattle.text.specs.Words.{wordAt}
+use Rattle.replay.specs.declared.cursor.Cursor.{Cursor}
 use Rattle.replay.specs.declared.turns.Line.{Line}
 use Rattle.replay.specs.Events.{frameOf, shown}
 
 -- the bytes between two places, none where there are no such places
 unfoldable pub lineAt : List ℕ → ℕ → ℕ → List ℕ
 lineAt inp from end = cond (leb from end) (cond (leb end (length inp)) (take (end - from) (drop from inp)) []) []
+
+-- where a line that begins at a place ends: its LF below n, else n
+unfoldable pub endFrom : List ℕ → ℕ → ℕ → ℕ
+endFrom inp from n = cond (leb n (length inp)) (cond (leb from n) (from + indexOf 10 (slice from n inp)) n) n
+
+-- the cursor of the line that begins at a place. There is one where its LF stands below n, and what is left of the n bytes falls
+unfoldable pub cursorFrom : List ℕ → ℕ → ℕ → ℕ → ℕ → Bool → Cursor
+cursorFrom inp n from place left good =
+    let end = endFrom inp from n in
+    let none : Cursor = record { from = from; «end» = end; «at» = place; left = 0; more = false; good = good } in
+    let one : Cursor = record { from = from; «end» = end; «at» = place; left = n - end; more = true; good = good } in
+    cond (ltb end n) (cond (ltb (n - end) left) one none) none
+
+-- the cursor after this one: the line that begins behind its LF
+abbrev pub cursorAfter : List ℕ → ℕ → Cursor → ℕ → Bool → Cursor
+cursorAfter inp n c place good = cursorFrom inp n ((c .«end» + 1) % 2 ^ 64) place (c .left) good
 
 -- an answer is put at the front of the buffer where less than an answer's length is free
 unfoldable pub roomAt : ℕ → ℕ

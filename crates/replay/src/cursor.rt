@@ -1,7 +1,7 @@
 // The lines of the input, one after the other.
 ghost use mathlib.Core.Path.{_≡_};
 ghost use mathlib.Core.Bool.{true};
-ghost use Prim.Native.Nat.{_≤_, _<_};
+ghost use Prim.Native.Nat.{_<_};
 ghost use Rattle.replay.specs.Turns as turn;
 
 // Where a line stands in the input, from its first byte to its LF, and where its answer goes. left falls from line to line: no
@@ -31,7 +31,7 @@ pub(crate) fn line_in<'a>(inp: &'a [u8], c: Cursor) -> &'a [u8]
 
 // The index of the first LF at or after `from` and below n, or n.
 fn line_end(inp: &[u8], from: usize, n: usize) -> usize
-    ensures { λ r. ⌜ (from ≤ n → from ≤ r) ⌝ }
+    ensures { λ r. ⌜ r ≡ turn.endFrom (now (inp .entry)) from n ⌝ }
 {
     if n <= inp.len() {
         if from <= n {
@@ -43,7 +43,7 @@ fn line_end(inp: &[u8], from: usize, n: usize) -> usize
 
 // The line that begins at a place, and what follows it.
 fn line_from(inp: &[u8], n: usize, from: usize, at: usize, left: usize, good: bool) -> Cursor
-    ensures { λ r. ⌜ (r .«at» ≡ «at») × (r .more ≡ true → r .left < left) ⌝ }
+    ensures { λ r. ⌜ (r .«at» ≡ «at») × (r .more ≡ true → r .left < left) × (r ≡ turn.cursorFrom (now (inp .entry)) n from «at» left good) ⌝ }
 {
     let end = line_end(inp, from, n);
     if end < n {
@@ -76,7 +76,7 @@ pub(crate) fn first_line(inp: &[u8], n: usize) -> Cursor {
 
 // The line after this one.
 pub(crate) fn next_line(inp: &[u8], n: usize, c: Cursor, at: usize, good: bool) -> Cursor
-    ensures { λ r. ⌜ (r .«at» ≡ «at») × (r .more ≡ true → r .left < c .left) ⌝ }
+    ensures { λ r. ⌜ (r .«at» ≡ «at») × (r .more ≡ true → r .left < c .left) × (r ≡ turn.cursorAfter (now (inp .entry)) n c (r .«at») (r .good)) ⌝ }
 {
     let left = c.left;
     let from = std::num::wrapping_add_usize(c.end, 1);

@@ -190,7 +190,7 @@ fn put_reply(
     out: &mut [u8],
     c: Cursor,
 ) -> Cursor
-    ensures { λ r. ⌜ Put (now (out .entry)) (turn.roomAt (c .«at»)) (turn.repliedText replied (line .time)) (now (out .exit)) (r .«at») × (r .more ≡ true → r .left < c .left) ⌝ }
+    ensures { λ r. ⌜ Put (now (out .entry)) (turn.roomAt (c .«at»)) (turn.repliedText replied (line .time)) (now (out .exit)) (r .«at») × (r .more ≡ true → r .left < c .left) × (r ≡ turn.cursorAfter (now (inp .entry)) n c (r .«at») (r .good)) ⌝ }
 {
     let room = room_for(out, c);
     let p = put_replied(replied, line.time, out, room.at);
@@ -199,7 +199,7 @@ fn put_reply(
 
 // Puts a look's answer, and finds the next line.
 fn put_look(looked: Looked, inp: &[u8], n: usize, out: &mut [u8], c: Cursor) -> Cursor
-    ensures { λ r. ⌜ Put (now (out .entry)) (turn.roomAt (c .«at»)) (lookedText looked) (now (out .exit)) (r .«at») × (r .more ≡ true → r .left < c .left) ⌝ }
+    ensures { λ r. ⌜ Put (now (out .entry)) (turn.roomAt (c .«at»)) (lookedText looked) (now (out .exit)) (r .«at») × (r .more ≡ true → r .left < c .left) × (r ≡ turn.cursorAfter (now (inp .entry)) n c (r .«at») (r .good)) ⌝ }
 {
     let room = room_for(out, c);
     let p = put_looked(looked, out, room.at);
@@ -219,7 +219,7 @@ fn event_in(inp: &[u8], c: Cursor) -> Event
 
 // The line at a cursor, where it is neither a call nor a look: `fresh` is a new station, all else leaves it as it was.
 fn by_value(motors: [Motor; 8], inp: &[u8], n: usize, out: &mut [u8], c: Cursor) -> Taken
-    ensures { λ r. ⌜ (stationOf (r .motors) ≡ spec.stationOfOther (stationOf motors) (turn.lineAt (now (inp .entry)) (c .from) (c .end))) × Put (now (out .entry)) (turn.roomAt (c .«at»)) (spec.textOfOther (turn.lineAt (now (inp .entry)) (c .from) (c .end))) (now (out .exit)) (r .cursor .«at») × (r .cursor .more ≡ true → r .cursor .left < c .left) ⌝ }
+    ensures { λ r. ⌜ (stationOf (r .motors) ≡ spec.stationOfOther (stationOf motors) (turn.lineAt (now (inp .entry)) (c .from) (c .end))) × Put (now (out .entry)) (turn.roomAt (c .«at»)) (spec.textOfOther (turn.lineAt (now (inp .entry)) (c .from) (c .end))) (now (out .exit)) (r .cursor .«at») × (r .cursor .more ≡ true → r .cursor .left < c .left) × (r .cursor ≡ turn.cursorAfter (now (inp .entry)) n c (r .cursor .«at») (r .cursor .good)) ⌝ }
 {
     let room = room_for(out, c);
     let event = event_in(inp, c);
@@ -241,7 +241,7 @@ pub(crate) fn take_line(
     out: &mut [u8],
     c: Cursor,
 ) -> Cursor
-    ensures { λ r. ⌜ (stationOf (now (motors .exit)) ≡ spec.stationAfterLine (stationOf (now (motors .entry))) (turn.lineAt (now (inp .entry)) (c .from) (c .end))) × Put (now (out .entry)) (turn.roomAt (c .«at»)) (spec.textAfterLine (stationOf (now (motors .entry))) (turn.lineAt (now (inp .entry)) (c .from) (c .end))) (now (out .exit)) (r .«at») × (r .more ≡ true → r .left < c .left) ⌝ }
+    ensures { λ r. ⌜ (stationOf (now (motors .exit)) ≡ spec.stationAfterLine (stationOf (now (motors .entry))) (turn.lineAt (now (inp .entry)) (c .from) (c .end))) × Put (now (out .entry)) (turn.roomAt (c .«at»)) (spec.textAfterLine (stationOf (now (motors .entry))) (turn.lineAt (now (inp .entry)) (c .from) (c .end))) (now (out .exit)) (r .«at») × (r .more ≡ true → r .left < c .left) × (r ≡ turn.cursorAfter (now (inp .entry)) n c (r .«at») (r .good)) ⌝ }
 {
     let line = asked_in(inp, c);
     if line.asks {

@@ -31,6 +31,7 @@ returns c = (
   rw (← c .before .before .before .before .before .before .before .before .before .event-in .ensures, ← c .before .before .before .is-fresh .ensures, c .before .before .if1 .taken) (c .before .new .ensures .0),
   rw (c .before .before .before .before .next-line .ensures .0, ← c .before .before .before .before .before .before .before .before .before .before .room-for .ensures, ← c .before .before .before .before .before .before .before .before .before .event-in .ensures) (c .before .before .before .before .before .before .before .put-other .ensures),
   c .before .before .before .before .next-line .ensures .1,
+  c .before .before .before .before .next-line .ensures .2,
 )
 
 same-length-2 : tie.Need-same-length-2
@@ -42,6 +43,7 @@ returns-2 c = (
   rw (← c .before .before .before .before .before .before .before .event-in .ensures, ← c .before .is-fresh .ensures, c .if1 .left),
   rw (c .before .before .next-line .ensures .0, ← c .before .before .before .before .before .before .before .before .room-for .ensures, ← c .before .before .before .before .before .before .before .event-in .ensures) (c .before .before .before .before .before .put-other .ensures),
   c .before .before .next-line .ensures .1,
+  c .before .before .next-line .ensures .2,
 )
 
 pub by-value-spec : {M : Type 1} → statement M

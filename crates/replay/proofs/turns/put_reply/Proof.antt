@@ -16,7 +16,7 @@ same-length : tie.Need-same-length
 same-length c = search needs
 
 returns : tie.Need-returns
-returns c = (rw (c .next-line .ensures .0, ← c .before .before .before .before .before .room-for .ensures) (c .before .before .before .put-replied .ensures), c .next-line .ensures .1)
+returns c = (rw (c .next-line .ensures .0, ← c .before .before .before .before .before .room-for .ensures) (c .before .before .before .put-replied .ensures), c .next-line .ensures .1, c .next-line .ensures .2)
 
 pub put-reply-spec : {M : Type 1} → statement M
 put-reply-spec =

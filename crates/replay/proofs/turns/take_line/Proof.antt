@@ -49,7 +49,7 @@ use Rattle.replay.specs.declared.cursor.Cursor.{Cursor}
 use Rattle.replay.specs.declared.turns.Line.{Line}
 use Rattle.replay.specs.declared.turns.Taken.{Taken}
 use Rattle.replay.specs.Events.{stationOfOther, textOfOther, stationAfterLine, textAfterLine}
-use Rattle.replay.specs.Turns.{lineAt, roomAt, askedIn, repliedText}
+use Rattle.replay.specs.Turns.{cursorAfter, lineAt, roomAt, askedIn, repliedText}
 use Rattle.replay.proofs.cursor.Cursor as cursor-type
 use Rattle.replay.proofs.cursor.Cursor.Laws as cursor-laws
 use Rattle.replay.proofs.turns.Line as line-type
@@ -101,59 +101,58 @@ line = thin.struct line-type.the-type line-laws.the-laws
 abbrev lineOf : List ℕ → Cursor → List ℕ
 lineOf xs c = lineAt xs (c .from) (c .end)
 
-abbrev Goes : Cursor → Cursor → Type 0
-Goes c r = r .more ≡ true → r .left < c .left
-
 abbrev Asks : List ℕ → Cursor → Line → Type 0
 Asks xs c l = l ≡ askedIn (lineOf xs c)
 
 abbrev Called : List Motor → Asked → Replied → List Motor → Type 0
 Called h a y z = (y ≡ replyIn (stationOf h) a) × (stationOf z ≡ stationIn (stationOf h) a)
 
-abbrev Replies : Replied → Line → List ℕ → Cursor → Cursor → List ℕ → Type 0
-Replies y l ys c r zs = Put ys (roomAt (c .«at»)) (repliedText y (l .time)) zs (r .«at») × Goes c r
+abbrev Replies : Replied → Line → List ℕ → ℕ → List ℕ → Cursor → Cursor → List ℕ → Type 0
+Replies y l xs n ys c r zs = Put ys (roomAt (c .«at»)) (repliedText y (l .time)) zs (r .«at») × (r .more ≡ true → r .left < c .left) × (r ≡ cursorAfter xs n c (r .«at») (r .good))
 
 abbrev Looked : List Motor → ℕ → looked-at.Looked → List Motor → Type 0
 Looked h id y z = (y ≡ lookIn (stationOf h) id) × (z ≡ h)
 
-abbrev Shows : looked-at.Looked → List ℕ → Cursor → Cursor → List ℕ → Type 0
-Shows y ys c r zs = Put ys (roomAt (c .«at»)) (lookedText y) zs (r .«at») × Goes c r
+abbrev Shows : looked-at.Looked → List ℕ → ℕ → List ℕ → Cursor → Cursor → List ℕ → Type 0
+Shows y xs n ys c r zs = Put ys (roomAt (c .«at»)) (lookedText y) zs (r .«at») × (r .more ≡ true → r .left < c .left) × (r ≡ cursorAfter xs n c (r .«at») (r .good))
 
-abbrev Promised : List Motor → List ℕ → List ℕ → Cursor → Cursor → List Motor → List ℕ → Type 0
-Promised h xs ys c r z zs = (stationOf z ≡ stationAfterLine (stationOf h) (lineOf xs c)) × Put ys (roomAt (c .«at»)) (textAfterLine (stationOf h) (lineOf xs c)) zs (r .«at») × Goes c r
+abbrev Promised : List Motor → List ℕ → ℕ → List ℕ → Cursor → Cursor → List Motor → List ℕ → Type 0
+Promised h xs n ys c r z zs = (stationOf z ≡ stationAfterLine (stationOf h) (lineOf xs c)) × Put ys (roomAt (c .«at»)) (textAfterLine (stationOf h) (lineOf xs c)) zs (r .«at») × (r .more ≡ true → r .left < c .left) × (r ≡ cursorAfter xs n c (r .«at») (r .good))
 
-abbrev Takes : List Motor → List ℕ → List ℕ → Cursor → Taken → List ℕ → Type 0
-Takes h xs ys c v zs = (stationOf (v .motors) ≡ stationOfOther (stationOf h) (lineOf xs c)) × Put ys (roomAt (c .«at»)) (textOfOther (lineOf xs c)) zs (v .cursor .«at») × Goes c (v .cursor)
+abbrev Takes : List Motor → List ℕ → ℕ → List ℕ → Cursor → Taken → List ℕ → Type 0
+Takes h xs n ys c v zs = (stationOf (v .motors) ≡ stationOfOther (stationOf h) (lineOf xs c)) × Put ys (roomAt (c .«at»)) (textOfOther (lineOf xs c)) zs (v .cursor .«at») × (v .cursor .more ≡ true → v .cursor .left < c .left) × (v .cursor ≡ cursorAfter xs n c (v .cursor .«at») (v .cursor .good))
 
 at-line : (st : Station) (ln : List ℕ) (l : Line) → l ≡ askedIn ln → l .asks ≡ true → (stationIn st (l .asked) ≡ stationAfterLine st ln) × (repliedText (replyIn st (l .asked)) (l .time) ≡ textAfterLine st ln)
 at-line st ln l e = subst (λ (k : Line). k .asks ≡ true → (stationIn st (k .asked) ≡ stationAfterLine st ln) × (repliedText (replyIn st (k .asked)) (k .time) ≡ textAfterLine st ln)) (sym e) (called st ln)
 
-holds-asks : (h : List Motor) (xs ys : List ℕ) (c : Cursor) (l : Line) (y : Replied) (z : List Motor) (r : Cursor) (zs : List ℕ) → Asks xs c l → l .asks ≡ true → Called h (l .asked) y z → Replies y l ys c r zs → Promised h xs ys c r z zs
-holds-asks h xs ys c l y z r zs e t y-said r-said =
+holds-asks : (h : List Motor) (xs : List ℕ) (n : ℕ) (ys : List ℕ) (c : Cursor) (l : Line) (y : Replied) (z : List Motor) (r : Cursor) (zs : List ℕ) → Asks xs c l → l .asks ≡ true → Called h (l .asked) y z → Replies y l xs n ys c r zs → Promised h xs n ys c r z zs
+holds-asks h xs n ys c l y z r zs e t y-said r-said =
     let goes = at-line (stationOf h) (lineOf xs c) l e t in (
       y-said .1 ∙ goes .0,
       subst (λ (text : List ℕ). Put ys (roomAt (c .«at»)) text zs (r .«at»)) (ap (λ (w : Replied). repliedText w (l .time)) (y-said .0) ∙ goes .1) (r-said .0),
       r-said .1,
+      r-said .2,
     )
 
 look-at-line : (st : Station) (ln : List ℕ) (l : Line) → l ≡ askedIn ln → l .looks ≡ true → (st ≡ stationAfterLine st ln) × (lookedText (lookIn st (l .id)) ≡ textAfterLine st ln)
 look-at-line st ln l e = subst (λ (k : Line). k .looks ≡ true → (st ≡ stationAfterLine st ln) × (lookedText (lookIn st (k .id)) ≡ textAfterLine st ln)) (sym e) (looked st ln)
 
-holds-looks : (h : List Motor) (xs ys : List ℕ) (c : Cursor) (l : Line) (y : looked-at.Looked) (z : List Motor) (r : Cursor) (zs : List ℕ) → Asks xs c l → l .looks ≡ true → Looked h (l .id) y z → Shows y ys c r zs → Promised h xs ys c r z zs
-holds-looks h xs ys c l y z r zs e t y-said r-said =
+holds-looks : (h : List Motor) (xs : List ℕ) (n : ℕ) (ys : List ℕ) (c : Cursor) (l : Line) (y : looked-at.Looked) (z : List Motor) (r : Cursor) (zs : List ℕ) → Asks xs c l → l .looks ≡ true → Looked h (l .id) y z → Shows y xs n ys c r zs → Promised h xs n ys c r z zs
+holds-looks h xs n ys c l y z r zs e t y-said r-said =
     let goes = look-at-line (stationOf h) (lineOf xs c) l e t in (
       ap (λ (ms : List Motor). stationOf ms) (y-said .1) ∙ goes .0,
       subst (λ (text : List ℕ). Put ys (roomAt (c .«at»)) text zs (r .«at»)) (ap (λ (w : looked-at.Looked). lookedText w) (y-said .0) ∙ goes .1) (r-said .0),
       r-said .1,
+      r-said .2,
     )
 
 other-line : (st : Station) (ln : List ℕ) (l : Line) → l ≡ askedIn ln → l .asks ≡ false → l .looks ≡ false → (stationOfOther st ln ≡ stationAfterLine st ln) × (textOfOther ln ≡ textAfterLine st ln)
 other-line st ln l e = subst (λ (k : Line). k .asks ≡ false → k .looks ≡ false → (stationOfOther st ln ≡ stationAfterLine st ln) × (textOfOther ln ≡ textAfterLine st ln)) (sym e) (other st ln)
 
-holds-other : (h : List Motor) (xs ys : List ℕ) (c : Cursor) (l : Line) (v : Taken) (zs : List ℕ) → Asks xs c l → l .asks ≡ false → l .looks ≡ false → Takes h xs ys c v zs → Promised h xs ys c (v .cursor) (v .motors) zs
-holds-other h xs ys c l v zs e a k v-said =
+holds-other : (h : List Motor) (xs : List ℕ) (n : ℕ) (ys : List ℕ) (c : Cursor) (l : Line) (v : Taken) (zs : List ℕ) → Asks xs c l → l .asks ≡ false → l .looks ≡ false → Takes h xs n ys c v zs → Promised h xs n ys c (v .cursor) (v .motors) zs
+holds-other h xs n ys c l v zs e a k v-said =
     let goes = other-line (stationOf h) (lineOf xs c) l e a k in
-    (v-said .0 ∙ goes .0, subst (λ (text : List ℕ). Put ys (roomAt (c .«at»)) text zs (v .cursor .«at»)) (goes .1) (v-said .1), v-said .2)
+    (v-said .0 ∙ goes .0, subst (λ (text : List ℕ). Put ys (roomAt (c .«at»)) text zs (v .cursor .«at»)) (goes .1) (v-said .1), v-said .2, v-said .3)
 
 -- the code is that of a line on a lent station
 abbrev the-code : Fn

@@ -1,0 +1,21 @@
+-- Right because the next line begins behind the LF.
+use Rattle.replay.proofs.Cursors.{told-by-itself}
+use borrow.Author.Needs.{needs}
+use Rattle.replay.proofs.cursor.next_line.Statement.{statement}
+use Rattle.replay.proofs.cursor.next_line.Tie as tie
+
+wrapping-add-usize-requires : tie.Need-wrapping-add-usize-requires
+wrapping-add-usize-requires c κs = search needs
+
+line-from-requires : tie.Need-line-from-requires
+line-from-requires c κs = search needs
+
+returns : tie.Need-returns
+returns c = (
+  c .line-from .ensures .0,
+  c .line-from .ensures .1,
+  rw (← c .before .wrapping-add-usize .ensures) (told-by-itself _ _ _ _ _ _ _ (c .line-from .ensures .0) (c .line-from .ensures .2)),
+)
+
+pub next-line-spec : {M : Type 1} → statement M
+next-line-spec = tie.close (tie.spec wrapping-add-usize-requires line-from-requires returns)
