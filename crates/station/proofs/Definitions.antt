@@ -60,7 +60,7 @@ reading-rules =
     }
 
 pub receive-rules : ReceiveRules
-receive-rules = record { readings = reading-rules; accepted = λ k x r p. p; read = λ k x r p. p; heard = λ k x r p. p .0; quiet = λ k x r p. p; as-lone = λ k x r p. p .1 }
+receive-rules = record { readings = reading-rules; accepted = λ k x r p. p; read = λ k x r p. p; heard = λ k x r p. p .0; quiet = λ k x r p. p; edits = λ k x r p. p .0; as-lone = λ k x r p. p .1 }
 
 pub operations : Operations
 operations =

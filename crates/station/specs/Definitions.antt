@@ -56,6 +56,7 @@ use Rattle.engine.proofs.run.begin_at.Reads as begin-at
 use Rattle.engine.proofs.run.advance_at.Reads as advance-at
 use Rattle.motor.specs.declared.readings.Entry.{Entry}
 use Rattle.motor.specs.Calls.{registrationOf}
+use Rattle.motor.specs.Edits.{readHeard}
 use Rattle.motor.specs.Lone.{loneStart, loneStep, hears, loneLook}
 use Rattle.motor.specs.Motors.{newMotor, startOf, stepOf, lookOf, removalOf, loneOf, AnsweredAs, HeardAs}
 use Rattle.motor.specs.Readings.{lookup, Lists, atFirst, dropIn, Rep, Holds, Puts, listing, emptyReadings, findOf, putOf, dropOf, listingOf}
@@ -70,6 +71,7 @@ use Rattle.motor.proofs.readings.empty.Reads as empty-reads
 use Rattle.motor.proofs.readings.find.Reads as find-reads
 use Rattle.motor.proofs.readings.listed.Reads as listed-reads
 use Rattle.motor.proofs.readings.put.Reads as put-reads
+use Rattle.motor.proofs.edits.hear_read.Reads as hear-read
 use Rattle.motor.proofs.quiet.hear_state.Reads as hear-state
 use Rattle.motor.proofs.receive.accepts_frame.Reads as accepts-frame
 use Rattle.motor.proofs.receive.is_read.Reads as is-read
@@ -166,6 +168,7 @@ pub record ReceiveRules : Type 0 where
   pub read : Gives is-read.Post (of1 isRead)
   pub heard : Gives process-feedback-frame.Post (of3 heardOf)
   pub quiet : Gives hear-state.Post (of3 stateHeard)
+  pub edits : Gives hear-read.Post (of3 readHeard)
   pub as-lone : Means process-feedback-frame.Post (of3 (λ m f time r. (l : List Entry) → Holds (m .readings) l → HeardAs r (hears (loneOf m l) f time)))
 
 pub record Operations : Type 0 where
