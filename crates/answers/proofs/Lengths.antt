@@ -25,14 +25,14 @@ use Rattle.codec.specs.declared.protocol.ParameterValue.{ParameterValue}
 use Rattle.codec.specs.declared.protocol.ParameterValue.the-variants as value
 use Rattle.codec.specs.Models.{nameOf}
 use Rattle.codec.specs.Refusals.{numberOf}
-use Rattle.engine.specs.declared.command.Command.{Command}
-use Rattle.engine.specs.declared.command.Outcome.{Outcome}
-use Rattle.engine.specs.declared.command.Outcome.the-variants as outcome
-use Rattle.engine.specs.declared.command.Said.{Said}
-use Rattle.engine.specs.declared.command.Said.the-variants as said
-use Rattle.engine.specs.declared.operation.Gains.{Gains}
-use Rattle.engine.specs.declared.operation.HeldPing.{HeldPing}
-use Rattle.engine.specs.declared.operation.Operation.{Operation}
+use Rattle.motor.specs.declared.engine.command.Command.{Command}
+use Rattle.motor.specs.declared.engine.command.Outcome.{Outcome}
+use Rattle.motor.specs.declared.engine.command.Outcome.the-variants as outcome
+use Rattle.motor.specs.declared.engine.command.Said.{Said}
+use Rattle.motor.specs.declared.engine.command.Said.the-variants as said
+use Rattle.motor.specs.declared.engine.operation.Gains.{Gains}
+use Rattle.motor.specs.declared.engine.operation.HeldPing.{HeldPing}
+use Rattle.motor.specs.declared.engine.operation.Operation.{Operation}
 use Rattle.motor.specs.declared.feedback.Latest.{Latest}
 use Rattle.motor.specs.declared.feedback.Latest.the-variants as latest
 use Rattle.motor.specs.declared.feedback.MotorFeedbackState.{MotorFeedbackState}

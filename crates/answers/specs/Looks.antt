@@ -10,10 +10,10 @@ use Rattle.codec.specs.declared.faults.FaultReport.{FaultReport}
 use Rattle.codec.specs.declared.model.Model.{Model}
 use Rattle.codec.specs.Models.{nameOf}
 use Rattle.codec.specs.Words.{wordOf}
-use Rattle.engine.specs.declared.command.Command.{Command}
-use Rattle.engine.specs.declared.operation.Gains.{Gains}
-use Rattle.engine.specs.declared.operation.HeldPing.{HeldPing}
-use Rattle.engine.specs.declared.operation.Operation.{Operation}
+use Rattle.motor.specs.declared.engine.command.Command.{Command}
+use Rattle.motor.specs.declared.engine.operation.Gains.{Gains}
+use Rattle.motor.specs.declared.engine.operation.HeldPing.{HeldPing}
+use Rattle.motor.specs.declared.engine.operation.Operation.{Operation}
 use Rattle.motor.specs.declared.feedback.Latest.{Latest}
 use Rattle.motor.specs.declared.feedback.Latest.the-variants as latest
 use Rattle.motor.specs.declared.feedback.MotorFeedbackState.{MotorFeedbackState}

@@ -9,10 +9,10 @@ use Rattle.codec.specs.declared.error.LastMode.the-variants as last
 use Rattle.codec.specs.declared.error.Refusal.{Refusal}
 use Rattle.codec.specs.declared.error.Refusal.the-variants as refusal
 use Rattle.codec.specs.Refusals.{numberOf}
-use Rattle.engine.specs.declared.command.Outcome.{Outcome}
-use Rattle.engine.specs.declared.command.Outcome.the-variants as outcome
-use Rattle.engine.specs.declared.command.Said.{Said}
-use Rattle.engine.specs.declared.command.Said.the-variants as said
+use Rattle.motor.specs.declared.engine.command.Outcome.{Outcome}
+use Rattle.motor.specs.declared.engine.command.Outcome.the-variants as outcome
+use Rattle.motor.specs.declared.engine.command.Said.{Said}
+use Rattle.motor.specs.declared.engine.command.Said.the-variants as said
 use Rattle.text.specs.Ascii.{ascii}
 use Rattle.text.specs.Fields.{fieldsText}
 use Rattle.text.specs.Put.{digitsOf, decimalOf}

@@ -1,7 +1,7 @@
 // Names as the Rust has them.
 use codec::model::Model;
 use codec::registers::ControlMode;
-use engine::command::Command;
+use motor::engine::command::Command;
 ghost use mathlib.Core.Path.{_≡_};
 ghost use Rattle.text.specs.Put.{Put};
 ghost use Rattle.codec.specs.Models.{nameOf};

@@ -11,21 +11,21 @@ use Rattle.codec.specs.declared.error.Checked.{Checked}
 use Rattle.codec.specs.declared.error.Checked.the-variants as checked
 use Rattle.codec.specs.Kinds.{among}
 use Rattle.codec.specs.Refusals.{numberOf}
-use Rattle.engine.specs.declared.command.Command.{Command}
-use Rattle.engine.specs.declared.command.Said.{Said}
-use Rattle.engine.specs.declared.command.Said.the-variants as said
-use Rattle.engine.specs.declared.operation.Move.{Move}
-use Rattle.engine.specs.declared.operation.Operation.{Operation}
-use Rattle.engine.specs.declared.operation.Phase.{Phase}
-use Rattle.engine.specs.declared.operation.Phase.the-variants as phase
+use Rattle.motor.specs.declared.engine.command.Command.{Command}
+use Rattle.motor.specs.declared.engine.command.Said.{Said}
+use Rattle.motor.specs.declared.engine.command.Said.the-variants as said
+use Rattle.motor.specs.declared.engine.operation.Move.{Move}
+use Rattle.motor.specs.declared.engine.operation.Operation.{Operation}
+use Rattle.motor.specs.declared.engine.operation.Phase.{Phase}
+use Rattle.motor.specs.declared.engine.operation.Phase.the-variants as phase
 use Rattle.motor.specs.declared.motor.State.{State}
 use Rattle.motor.specs.Bounds.{Event, start, step, frame, other, after, afterAll, hasFrame, sends, passes, isDue, once, count, limitOf, GivenWithin, Given, Accepted, Bounds}
 use Rattle.motor.specs.Calls.{isIdle, arguedOf, orElse, startSaid, stepSaid, sightOf, wanted}
 use Rattle.motor.specs.Lone.{Lone, LoneAnswered, loneNew, loneMoved, loneStartBy, loneStart, loneStepBy, loneStep, hears}
-use Rattle.engine.specs.Operations.{begins}
+use Rattle.motor.specs.engine.Operations.{begins}
 use Rattle.motor.specs.Readings.{lookup, room}
 use Rattle.motor.specs.Receive.{accepts, late, counted, told, isRead, readId, readStatus, frameSaid, stateAfter}
-use Rattle.engine.specs.Run.{advance, begin}
+use Rattle.motor.specs.engine.Run.{advance, begin}
 use Rattle.motor.proofs.Follows.{begin-fits}
 use Rattle.motor.proofs.Measures.{by-test, nodeLeft, restLeft, phaseLeft, opLeft}
 use Rattle.motor.proofs.MovesBounded.{Moved, enter-moves, advance-moves}

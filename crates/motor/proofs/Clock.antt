@@ -10,20 +10,20 @@ use Rattle.codec.specs.declared.error.Checked.the-variants as checked
 use Rattle.codec.specs.declared.error.Refusal.{Refusal}
 use Rattle.codec.specs.declared.error.Refusal.the-variants as refusal
 use Rattle.codec.specs.Kinds.{among}
-use Rattle.engine.specs.declared.command.Command.{Command}
-use Rattle.engine.specs.declared.command.Said.{Said}
-use Rattle.engine.specs.declared.command.Said.the-variants as said
-use Rattle.engine.specs.declared.operation.Effect.{Effect}
-use Rattle.engine.specs.declared.operation.Effect.the-variants as effect
-use Rattle.engine.specs.declared.operation.Move.{Move}
-use Rattle.engine.specs.declared.operation.Operation.{Operation}
-use Rattle.engine.specs.declared.operation.Phase.{Phase}
+use Rattle.motor.specs.declared.engine.command.Command.{Command}
+use Rattle.motor.specs.declared.engine.command.Said.{Said}
+use Rattle.motor.specs.declared.engine.command.Said.the-variants as said
+use Rattle.motor.specs.declared.engine.operation.Effect.{Effect}
+use Rattle.motor.specs.declared.engine.operation.Effect.the-variants as effect
+use Rattle.motor.specs.declared.engine.operation.Move.{Move}
+use Rattle.motor.specs.declared.engine.operation.Operation.{Operation}
+use Rattle.motor.specs.declared.engine.operation.Phase.{Phase}
 use Rattle.motor.specs.Calls.{isIdle, arguedOf, admittedOf, startSaid, stepSaid, noCommand, sightOf, movedBy, wanted}
 use Rattle.motor.specs.Lone.{Lone, LoneAnswered, LoneHeard, loneRefused, loneMoved, loneStart, loneStartBy, loneStep, loneStepBy, hears}
 use Rattle.motor.specs.Numbers.{firstOf}
 use Rattle.motor.specs.Readings.{lookup, insert, room}
 use Rattle.motor.specs.Receive.{accepts, late, isRead, counted, told, readStatus, readId, readStored, frameSaid, stateAfter, readingsAfter}
-use Rattle.engine.specs.Run.{idle, advance, begin}
+use Rattle.motor.specs.engine.Run.{idle, advance, begin}
 use Rattle.motor.proofs.Ends.{Closed, Ends, begin-ends, advance-ends}
 use Rattle.motor.proofs.Stays.{movesBy, moves, heardMoves, Stays, start-stays, step-stays, argued-passed, running}
 

@@ -22,10 +22,10 @@ use Rattle.codec.specs.Values.{le32, widthOf, rawOf, encodedValue, writePayload
 use Rattle.codec.proofs.RoundTrips.{InRange, accepted, echoed}
 use Rattle.codec.proofs.RoundTrips as codec
 use Rattle.codec.proofs.TwosComplement.{byte-lt}
-use Rattle.engine.specs.declared.command.Command.the-variants as command
-use Rattle.engine.specs.declared.operation.Move.{Move}
-use Rattle.engine.specs.declared.reading.Stored.{Stored}
-use Rattle.engine.specs.declared.reading.Found.the-variants.{Held}
+use Rattle.motor.specs.declared.engine.command.Command.the-variants as command
+use Rattle.motor.specs.declared.engine.operation.Move.{Move}
+use Rattle.motor.specs.declared.engine.reading.Stored.{Stored}
+use Rattle.motor.specs.declared.engine.reading.Found.the-variants.{Held}
 use Rattle.motor.specs.Calls.{encodes, startSaid, admittedOf}
 use Rattle.motor.specs.Lone.{Lone, loneStart, hears}
 use Rattle.motor.specs.Readings.{lookup}

@@ -9,31 +9,31 @@ use Rattle.codec.specs.declared.error.Checked.the-variants as checked
 use Rattle.codec.specs.declared.protocol.EncodedValue.{EncodedValue}
 use Rattle.codec.specs.declared.protocol.EncodedValue.the-variants as encoded
 use Rattle.codec.specs.Values.{encodedValue}
-use Rattle.engine.specs.declared.candidates.Host.{Host}
-use Rattle.engine.specs.declared.candidates.Host.the-variants as host
-use Rattle.engine.specs.declared.command.Command.{Command}
-use Rattle.engine.specs.declared.command.Said.{Said}
-use Rattle.engine.specs.declared.command.Said.the-variants as said
-use Rattle.engine.specs.declared.operation.Effect.{Effect}
-use Rattle.engine.specs.declared.operation.Effect.the-variants as effect
-use Rattle.engine.specs.declared.operation.Move.{Move}
-use Rattle.engine.specs.declared.operation.Operation.{Operation}
-use Rattle.engine.specs.declared.operation.Phase.{Phase}
-use Rattle.engine.specs.declared.operation.Phase.the-variants as phase
-use Rattle.engine.specs.declared.operation.Sight.{Sight}
-use Rattle.engine.specs.declared.node.Acked.{Acked}
-use Rattle.engine.specs.declared.node.Node.{Node}
-use Rattle.engine.specs.declared.node.Node.the-variants as node
-use Rattle.engine.specs.declared.node.Wait.{Wait}
-use Rattle.engine.specs.declared.node.Wait.the-variants as wait
-use Rattle.engine.specs.declared.reading.Found.{Found}
-use Rattle.engine.specs.declared.reading.Found.the-variants as found
-use Rattle.engine.specs.declared.run.After.{After}
-use Rattle.engine.specs.declared.run.After.the-variants as after
+use Rattle.motor.specs.declared.engine.candidates.Host.{Host}
+use Rattle.motor.specs.declared.engine.candidates.Host.the-variants as host
+use Rattle.motor.specs.declared.engine.command.Command.{Command}
+use Rattle.motor.specs.declared.engine.command.Said.{Said}
+use Rattle.motor.specs.declared.engine.command.Said.the-variants as said
+use Rattle.motor.specs.declared.engine.operation.Effect.{Effect}
+use Rattle.motor.specs.declared.engine.operation.Effect.the-variants as effect
+use Rattle.motor.specs.declared.engine.operation.Move.{Move}
+use Rattle.motor.specs.declared.engine.operation.Operation.{Operation}
+use Rattle.motor.specs.declared.engine.operation.Phase.{Phase}
+use Rattle.motor.specs.declared.engine.operation.Phase.the-variants as phase
+use Rattle.motor.specs.declared.engine.operation.Sight.{Sight}
+use Rattle.motor.specs.declared.engine.node.Acked.{Acked}
+use Rattle.motor.specs.declared.engine.node.Node.{Node}
+use Rattle.motor.specs.declared.engine.node.Node.the-variants as node
+use Rattle.motor.specs.declared.engine.node.Wait.{Wait}
+use Rattle.motor.specs.declared.engine.node.Wait.the-variants as wait
+use Rattle.motor.specs.declared.engine.reading.Found.{Found}
+use Rattle.motor.specs.declared.engine.reading.Found.the-variants as found
+use Rattle.motor.specs.declared.engine.run.After.{After}
+use Rattle.motor.specs.declared.engine.run.After.the-variants as after
 use Rattle.motor.specs.Calls.{isIdle, arguedOf, encodes}
-use Rattle.engine.specs.Hosts.{nextHost}
-use Rattle.engine.specs.Operations.{begins, okOf, gotOf, pingedOf, goneOf}
-use Rattle.engine.specs.Run.{idle, still, countBy, sendThen, afterNode, write, enter, retry, retryAt, look, advance, begin}
+use Rattle.motor.specs.engine.Hosts.{nextHost}
+use Rattle.motor.specs.engine.Operations.{begins, okOf, gotOf, pingedOf, goneOf}
+use Rattle.motor.specs.engine.Run.{idle, still, countBy, sendThen, afterNode, write, enter, retry, retryAt, look, advance, begin}
 use Rattle.motor.proofs.GoodNodes.{endsBy, Good, ok-good, got-good, pinged-good, gone-good, begins-good}
 
 -- finished or failed leaves no operation; failed, it is by one of those numbers, and nothing that is held changes

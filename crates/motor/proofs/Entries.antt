@@ -7,9 +7,9 @@ use native.Mathlib.Omega.{arith}
 use lib.Dec.{ltb, eqb}
 use lib.ListN.{length, getD}
 use borrow.Author.Tests.{lt-ltb, eq-eqb, ne-eqb, ltb-true, ltb-false, eqb-false}
-use Rattle.engine.specs.declared.reading.Stored.{Stored}
+use Rattle.motor.specs.declared.engine.reading.Stored.{Stored}
 use Rattle.motor.specs.declared.readings.Entry.{Entry}
-use Rattle.engine.specs.declared.reading.Found.the-variants.{Nothing, Held}
+use Rattle.motor.specs.declared.engine.reading.Found.the-variants.{Nothing, Held}
 use Rattle.motor.specs.Readings.{entry, holds, lookup, insert, remove, Above, Rising, Numbered, entries, recordOf, placeIn, takeOut, noEntry}
 
 pub never : {A : Type 0} → true ≡ false → A

@@ -10,28 +10,28 @@ use Rattle.codec.specs.declared.registers.ModeRead.{ModeRead}
 use Rattle.codec.specs.declared.registers.ModeRead.the-variants as read
 use Rattle.codec.specs.declared.word.Word.{Word}
 use lib.IntN.{ℤ}
-use Rattle.engine.specs.declared.command.Command.{Command}
-use Rattle.engine.specs.declared.command.Command.the-variants as command
-use Rattle.engine.specs.declared.operation.Sight.{Sight}
-use Rattle.engine.specs.declared.kinds.FloatIn.{FloatIn}
-use Rattle.engine.specs.declared.kinds.FloatIn.the-variants as float
-use Rattle.engine.specs.declared.kinds.SignedIn.{SignedIn}
-use Rattle.engine.specs.declared.kinds.SignedIn.the-variants as signed
-use Rattle.engine.specs.declared.node.Acked.{Acked}
-use Rattle.engine.specs.declared.node.Acked.the-variants as acked
-use Rattle.engine.specs.declared.node.Aim.{Aim}
-use Rattle.engine.specs.declared.node.Ensure.{Ensure}
-use Rattle.engine.specs.declared.node.Ensure.the-variants as ensure
-use Rattle.engine.specs.declared.node.Got.{Got}
-use Rattle.engine.specs.declared.node.Got.the-variants as got
-use Rattle.engine.specs.declared.node.Node.{Node}
-use Rattle.engine.specs.declared.node.Pinged.{Pinged}
-use Rattle.engine.specs.declared.node.Pinged.the-variants as pinged
-use Rattle.engine.specs.declared.node.Wait.{Wait}
-use Rattle.engine.specs.declared.node.Wait.the-variants as wait
+use Rattle.motor.specs.declared.engine.command.Command.{Command}
+use Rattle.motor.specs.declared.engine.command.Command.the-variants as command
+use Rattle.motor.specs.declared.engine.operation.Sight.{Sight}
+use Rattle.motor.specs.declared.engine.kinds.FloatIn.{FloatIn}
+use Rattle.motor.specs.declared.engine.kinds.FloatIn.the-variants as float
+use Rattle.motor.specs.declared.engine.kinds.SignedIn.{SignedIn}
+use Rattle.motor.specs.declared.engine.kinds.SignedIn.the-variants as signed
+use Rattle.motor.specs.declared.engine.node.Acked.{Acked}
+use Rattle.motor.specs.declared.engine.node.Acked.the-variants as acked
+use Rattle.motor.specs.declared.engine.node.Aim.{Aim}
+use Rattle.motor.specs.declared.engine.node.Ensure.{Ensure}
+use Rattle.motor.specs.declared.engine.node.Ensure.the-variants as ensure
+use Rattle.motor.specs.declared.engine.node.Got.{Got}
+use Rattle.motor.specs.declared.engine.node.Got.the-variants as got
+use Rattle.motor.specs.declared.engine.node.Node.{Node}
+use Rattle.motor.specs.declared.engine.node.Pinged.{Pinged}
+use Rattle.motor.specs.declared.engine.node.Pinged.the-variants as pinged
+use Rattle.motor.specs.declared.engine.node.Wait.{Wait}
+use Rattle.motor.specs.declared.engine.node.Wait.the-variants as wait
 use Rattle.motor.specs.Bounds.{limitOf}
-use Rattle.engine.specs.Operations.{begins, okOf, lostOf, gotOf, lostGot, pingedOf, goneOf}
-use Rattle.engine.specs.Script.{signedIn, floatIn, asFlag, asSigned, asFloat, modeOr17, modeIn, stopIn, absOf, usable, limit, tryIn, firstRead, backRead, isMode, ensureOk, ensureLost}
+use Rattle.motor.specs.engine.Operations.{begins, okOf, lostOf, gotOf, lostGot, pingedOf, goneOf}
+use Rattle.motor.specs.engine.Script.{signedIn, floatIn, asFlag, asSigned, asFloat, modeOr17, modeIn, stopIn, absOf, usable, limit, tryIn, firstRead, backRead, isMode, ensureOk, ensureLost}
 use Rattle.motor.proofs.Measures.{by-test, Paced, window-small, four, tries, ackedLeft, gotLeft, pingedLeft, waitLeft, nodeLeft, Fits}
 
 module _ (f d : ℕ) where

@@ -10,12 +10,12 @@ use Rattle.codec.specs.declared.error.Checked.{Checked}
 use Rattle.codec.specs.declared.error.Checked.the-variants as checked
 use Rattle.codec.specs.declared.error.Refusal.{Refusal}
 use Rattle.codec.specs.declared.error.Refusal.the-variants as refusal
-use Rattle.engine.specs.declared.command.Command.{Command}
-use Rattle.engine.specs.declared.operation.Phase.{Phase}
+use Rattle.motor.specs.declared.engine.command.Command.{Command}
+use Rattle.motor.specs.declared.engine.operation.Phase.{Phase}
 use Rattle.motor.specs.Calls.{isIdle, timeoutOf, orElse, admittedOf, arguedOf, startSaid, stepSaid}
-use Rattle.engine.proofs.Choices.{cond-no}
-use Rattle.engine.specs.declared.operation.Move.{Move}
-use Rattle.engine.specs.Run.{tooLate, inTime}
+use Rattle.motor.proofs.engine.Choices.{cond-no}
+use Rattle.motor.specs.declared.engine.operation.Move.{Move}
+use Rattle.motor.specs.engine.Run.{tooLate, inTime}
 use Rattle.motor.specs.Numbers.{firstOf}
 use Rattle.motor.specs.Receive.{late}
 

@@ -4,7 +4,7 @@ use mathlib.Core.Path.{_≡_, refl, sym, ap, _∙_}
 use mathlib.Core.List.{List, [], _∷_, _++_, map, map-append}
 use native.Mathlib.Omega.{arith}
 use lib.ListN.{length, set, length-append, length-map}
-use Rattle.engine.specs.declared.reading.Stored.{Stored}
+use Rattle.motor.specs.declared.engine.reading.Stored.{Stored}
 use Rattle.motor.specs.declared.readings.Reading.{Reading}
 use Rattle.motor.specs.declared.readings.Readings.{Readings}
 use Rattle.motor.specs.Readings.{entry, Rising, Numbered, numbers, entries, Lists, reading, freeRecord, recAt, nextAt, Chain, times, unused, Rep, linkedAt, unlinkedAt, replacedAt}

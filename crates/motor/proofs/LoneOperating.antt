@@ -4,24 +4,24 @@ use mathlib.Core.Path.{_≡_, refl, sym, subst}
 use mathlib.Core.List.{List}
 use Rattle.codec.specs.declared.error.Checked.{Checked}
 use Rattle.codec.specs.declared.error.Checked.the-variants as checked
-use Rattle.engine.specs.declared.command.Command.{Command}
-use Rattle.engine.specs.declared.operation.Effect.{Effect}
-use Rattle.engine.specs.declared.operation.Effect.the-variants as effect
-use Rattle.engine.specs.declared.operation.Move.{Move}
-use Rattle.engine.specs.declared.operation.Phase.{Phase}
-use Rattle.engine.specs.declared.operation.Phase.the-variants as phase
+use Rattle.motor.specs.declared.engine.command.Command.{Command}
+use Rattle.motor.specs.declared.engine.operation.Effect.{Effect}
+use Rattle.motor.specs.declared.engine.operation.Effect.the-variants as effect
+use Rattle.motor.specs.declared.engine.operation.Move.{Move}
+use Rattle.motor.specs.declared.engine.operation.Phase.{Phase}
+use Rattle.motor.specs.declared.engine.operation.Phase.the-variants as phase
 use Rattle.motor.specs.declared.motor.Answered.{Answered}
 use Rattle.motor.specs.declared.motor.Motor.{Motor}
 use Rattle.motor.specs.declared.motor.Seen.{Seen}
-use Rattle.engine.specs.declared.node.Wait.{Wait}
-use Rattle.engine.specs.declared.node.Wait.the-variants as wait
+use Rattle.motor.specs.declared.engine.node.Wait.{Wait}
+use Rattle.motor.specs.declared.engine.node.Wait.the-variants as wait
 use Rattle.motor.specs.declared.readings.Entry.{Entry}
-use Rattle.engine.specs.declared.reading.Found.{Found}
+use Rattle.motor.specs.declared.engine.reading.Found.{Found}
 use Rattle.motor.specs.Calls.{sightOf, readingsBy, wanted, wantedBy, startSaid, stepSaid}
 use Rattle.motor.specs.Lone.{loneMoved, loneStartBy, loneStart, loneStepBy, loneStep, loneLook}
 use Rattle.motor.specs.Motors.{loneOf, movedOf, startBy, startOf, stepBy, stepOf, lookOf, AnsweredAs}
 use Rattle.motor.specs.Readings.{Holds, lookup, remove, findOf, dropOf}
-use Rattle.engine.specs.Run.{advance, begin}
+use Rattle.motor.specs.engine.Run.{advance, begin}
 use Rattle.motor.proofs.ReadingsHeld.{find-holds, drop-holds, listing-holds}
 
 module _ (m : Motor) (l : List Entry) (x : Holds (m .readings) l) where

@@ -6,9 +6,9 @@ use mathlib.Core.List.{List, [], _∷_}
 use native.Mathlib.Omega.{arith}
 use lib.Dec.{ltb, eqb}
 use borrow.Author.Tests.{eq-eqb, ne-eqb, ltb-true, eqb-true}
-use Rattle.engine.specs.declared.reading.Stored.{Stored}
+use Rattle.motor.specs.declared.engine.reading.Stored.{Stored}
 use Rattle.motor.specs.declared.readings.Entry.{Entry}
-use Rattle.engine.specs.declared.reading.Found.the-variants.{Nothing, Held}
+use Rattle.motor.specs.declared.engine.reading.Found.the-variants.{Nothing, Held}
 use Rattle.motor.specs.Readings.{entry, lookup, insert, remove, Rising}
 use Rattle.motor.proofs.Entries.{holds-above, lookup-none}
 

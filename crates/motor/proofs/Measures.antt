@@ -6,24 +6,24 @@ use mathlib.Core.Bool.{Bool, true, false, cond}
 use native.Mathlib.Omega.{arith}
 use borrow.Author.Tests.{ltb-false}
 use lib.Dec.{ltb}
-use Rattle.engine.specs.declared.candidates.Hosts.{Hosts}
-use Rattle.engine.specs.declared.candidates.Hosts.the-variants as hosts
-use Rattle.engine.specs.declared.operation.Operation.{Operation}
-use Rattle.engine.specs.declared.operation.Phase.{Phase}
-use Rattle.engine.specs.declared.operation.Phase.the-variants as phase
-use Rattle.engine.specs.declared.node.Acked.{Acked}
-use Rattle.engine.specs.declared.node.Acked.the-variants as acked
-use Rattle.engine.specs.declared.node.Ensure.{Ensure}
-use Rattle.engine.specs.declared.node.Ensure.the-variants as ensure
-use Rattle.engine.specs.declared.node.Got.{Got}
-use Rattle.engine.specs.declared.node.Got.the-variants as got
-use Rattle.engine.specs.declared.node.Node.{Node}
-use Rattle.engine.specs.declared.node.Node.the-variants as node
-use Rattle.engine.specs.declared.node.Pinged.{Pinged}
-use Rattle.engine.specs.declared.node.Pinged.the-variants as pinged
-use Rattle.engine.specs.declared.node.Wait.{Wait}
-use Rattle.engine.specs.declared.node.Wait.the-variants as wait
-use Rattle.engine.specs.Script.{windowOf}
+use Rattle.motor.specs.declared.engine.candidates.Hosts.{Hosts}
+use Rattle.motor.specs.declared.engine.candidates.Hosts.the-variants as hosts
+use Rattle.motor.specs.declared.engine.operation.Operation.{Operation}
+use Rattle.motor.specs.declared.engine.operation.Phase.{Phase}
+use Rattle.motor.specs.declared.engine.operation.Phase.the-variants as phase
+use Rattle.motor.specs.declared.engine.node.Acked.{Acked}
+use Rattle.motor.specs.declared.engine.node.Acked.the-variants as acked
+use Rattle.motor.specs.declared.engine.node.Ensure.{Ensure}
+use Rattle.motor.specs.declared.engine.node.Ensure.the-variants as ensure
+use Rattle.motor.specs.declared.engine.node.Got.{Got}
+use Rattle.motor.specs.declared.engine.node.Got.the-variants as got
+use Rattle.motor.specs.declared.engine.node.Node.{Node}
+use Rattle.motor.specs.declared.engine.node.Node.the-variants as node
+use Rattle.motor.specs.declared.engine.node.Pinged.{Pinged}
+use Rattle.motor.specs.declared.engine.node.Pinged.the-variants as pinged
+use Rattle.motor.specs.declared.engine.node.Wait.{Wait}
+use Rattle.motor.specs.declared.engine.node.Wait.the-variants as wait
+use Rattle.motor.specs.engine.Script.{windowOf}
 
 -- what holds of each side of a choice, where the test comes out so, holds of the choice
 pub by-test : {A : Type 0} (P : Bool → A → Type 0) (b : Bool) {x y : A} → (b ≡ true → P true x) → (b ≡ false → P false y) → P b (cond b x y)

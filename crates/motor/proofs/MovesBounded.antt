@@ -11,31 +11,31 @@ use Rattle.codec.specs.declared.bus.CanFrame.{CanFrame}
 use Rattle.codec.specs.declared.protocol.EncodedValue.{EncodedValue}
 use Rattle.codec.specs.declared.protocol.EncodedValue.the-variants as encoded
 use Rattle.codec.specs.Values.{encodedValue}
-use Rattle.engine.specs.declared.candidates.Host.{Host}
-use Rattle.engine.specs.declared.candidates.Host.the-variants as host
-use Rattle.engine.specs.declared.candidates.Hosts.{Hosts}
-use Rattle.engine.specs.declared.candidates.Hosts.the-variants as hosts
-use Rattle.engine.specs.declared.command.Said.{Said}
-use Rattle.engine.specs.declared.operation.Effect.{Effect}
-use Rattle.engine.specs.declared.operation.Move.{Move}
-use Rattle.engine.specs.declared.operation.Operation.{Operation}
-use Rattle.engine.specs.declared.operation.Phase.{Phase}
-use Rattle.engine.specs.declared.operation.Phase.the-variants as phase
-use Rattle.engine.specs.declared.operation.Sight.{Sight}
-use Rattle.engine.specs.declared.node.Acked.{Acked}
-use Rattle.engine.specs.declared.node.Acknowledgement.the-variants as by
-use Rattle.engine.specs.declared.node.Node.{Node}
-use Rattle.engine.specs.declared.node.Node.the-variants as node
-use Rattle.engine.specs.declared.node.Request.{Request}
-use Rattle.engine.specs.declared.node.Request.the-variants as request
-use Rattle.engine.specs.declared.node.Wait.{Wait}
-use Rattle.engine.specs.declared.node.Wait.the-variants as wait
-use Rattle.engine.specs.declared.reading.Found.{Found}
-use Rattle.engine.specs.declared.reading.Found.the-variants as found
+use Rattle.motor.specs.declared.engine.candidates.Host.{Host}
+use Rattle.motor.specs.declared.engine.candidates.Host.the-variants as host
+use Rattle.motor.specs.declared.engine.candidates.Hosts.{Hosts}
+use Rattle.motor.specs.declared.engine.candidates.Hosts.the-variants as hosts
+use Rattle.motor.specs.declared.engine.command.Said.{Said}
+use Rattle.motor.specs.declared.engine.operation.Effect.{Effect}
+use Rattle.motor.specs.declared.engine.operation.Move.{Move}
+use Rattle.motor.specs.declared.engine.operation.Operation.{Operation}
+use Rattle.motor.specs.declared.engine.operation.Phase.{Phase}
+use Rattle.motor.specs.declared.engine.operation.Phase.the-variants as phase
+use Rattle.motor.specs.declared.engine.operation.Sight.{Sight}
+use Rattle.motor.specs.declared.engine.node.Acked.{Acked}
+use Rattle.motor.specs.declared.engine.node.Acknowledgement.the-variants as by
+use Rattle.motor.specs.declared.engine.node.Node.{Node}
+use Rattle.motor.specs.declared.engine.node.Node.the-variants as node
+use Rattle.motor.specs.declared.engine.node.Request.{Request}
+use Rattle.motor.specs.declared.engine.node.Request.the-variants as request
+use Rattle.motor.specs.declared.engine.node.Wait.{Wait}
+use Rattle.motor.specs.declared.engine.node.Wait.the-variants as wait
+use Rattle.motor.specs.declared.engine.reading.Found.{Found}
+use Rattle.motor.specs.declared.engine.reading.Found.the-variants as found
 use Rattle.motor.specs.Bounds.{hasFrame, GivenWithin}
-use Rattle.engine.specs.Hosts.{candidatesOf, nextHost}
-use Rattle.engine.specs.Operations.{okOf, gotOf, pingedOf, goneOf}
-use Rattle.engine.specs.Run.{idle, attempt, afterNode, sendThen, sentOn, writeRaw, write, enter, retryAt, still, timed, countBy, look, advance}
+use Rattle.motor.specs.engine.Hosts.{candidatesOf, nextHost}
+use Rattle.motor.specs.engine.Operations.{okOf, gotOf, pingedOf, goneOf}
+use Rattle.motor.specs.engine.Run.{idle, attempt, afterNode, sendThen, sentOn, writeRaw, write, enter, retryAt, still, timed, countBy, look, advance}
 use Rattle.motor.proofs.Follows.{ok-fits, gone-fits, got-fits, pinged-fits}
 use Rattle.motor.proofs.Measures.{by-test, many, window-small, four, ackedLeft, waitLeft, moreLeft, restLeft, phaseLeft, opLeft, Fits}
 

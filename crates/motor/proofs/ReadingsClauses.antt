@@ -2,11 +2,11 @@
 use Prim.Native.Nat.{ℕ}
 use mathlib.Core.Path.{_≡_, sym, _∙_, subst}
 use mathlib.Core.List.{List}
-use Rattle.engine.specs.declared.reading.Stored.{Stored}
+use Rattle.motor.specs.declared.engine.reading.Stored.{Stored}
 use Rattle.motor.specs.declared.readings.Readings.{Readings}
 use Rattle.motor.specs.declared.readings.Entry.{Entry}
 use Rattle.motor.specs.declared.readings.PutResult.{PutResult}
-use Rattle.engine.specs.declared.reading.Found.{Found}
+use Rattle.motor.specs.declared.engine.reading.Found.{Found}
 use Rattle.motor.specs.Readings.{lookup, Lists, dropIn, Rep, Holds, Puts, findOf, putOf, dropOf}
 use Rattle.motor.proofs.ReadingsMeaning.{put-rep, drop-rep}
 use Rattle.motor.proofs.ReadingsHeld.{find-holds}

@@ -8,7 +8,7 @@ use lib.Dec.{ltb}
 use lib.ListN.{length, take, replicate}
 use lib.Seq.{take-append-seam}
 use borrow.Author.Tests.{lt-ltb, le-ltb}
-use Rattle.engine.specs.declared.reading.Stored.{Stored}
+use Rattle.motor.specs.declared.engine.reading.Stored.{Stored}
 use Rattle.motor.specs.declared.readings.Readings.{Readings}
 use Rattle.motor.specs.declared.readings.Entry.{Entry}
 use Rattle.motor.specs.declared.readings.PutAnswer.the-variants.{Kept, Full}

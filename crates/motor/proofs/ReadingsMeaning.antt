@@ -7,11 +7,11 @@ use native.Mathlib.Omega.{arith}
 use lib.Dec.{ltb, eqb}
 use lib.ListN.{length}
 use borrow.Author.Tests.{lt-ltb, le-ltb, eq-eqb, ne-eqb, eqb-true, eqb-false}
-use Rattle.engine.specs.declared.reading.Stored.{Stored}
+use Rattle.motor.specs.declared.engine.reading.Stored.{Stored}
 use Rattle.motor.specs.declared.readings.Reading.{Reading}
 use Rattle.motor.specs.declared.readings.Readings.{Readings}
 use Rattle.motor.specs.declared.readings.Entry.{Entry}
-use Rattle.engine.specs.declared.reading.Found.the-variants.{Held}
+use Rattle.motor.specs.declared.engine.reading.Found.the-variants.{Held}
 use Rattle.motor.specs.Readings.{entry, holds, lookup, Rising, Numbered, entries, Lists, recordOf, placeIn, takeOut, dropIn, noStored, nextAt, Chain, Rep, Puts, placeOf, holderAt, holderOf, foundAt, findOf, addAt, putAt, putOf, dropAt, dropOf, walk}
 use Rattle.motor.proofs.Entries.{never, holds-first, lookup-none, record-none, insert-rising, remove-rising, rising-back, entries-placed, entries-taken, holds-skip, lookup-skip, record-skip, take-skip, place-skip}
 use Rattle.motor.proofs.Search.{Stops, Split, seek-place, walk-chain}

@@ -5,7 +5,7 @@ use mathlib.Core.Bool.{true, false}
 use mathlib.Core.List.{_∷_, _++_, map}
 use native.Mathlib.Omega.{arith}
 use lib.ListN.{length, getD}
-use Rattle.engine.specs.declared.reading.Stored.{Stored}
+use Rattle.motor.specs.declared.engine.reading.Stored.{Stored}
 use Rattle.motor.specs.declared.readings.Readings.{Readings}
 use Rattle.motor.specs.Readings.{holds, numbers, entries, Lists, recordOf, takeOut, putIn, dropIn, noEntry, times, unused, Rep, holderOf, putOf, dropOf}
 use Rattle.motor.proofs.Times.{in-range, times-append}

@@ -8,8 +8,8 @@ use Rattle.codec.specs.declared.error.Checked.the-variants.{Passed}
 use Rattle.codec.specs.declared.model.Model.the-variants.{Rs00}
 use Rattle.codec.specs.Kinds.{among}
 use Rattle.codec.specs.Replies.{zeros, isVersion}
-use Rattle.engine.specs.declared.command.Command.{Command}
-use Rattle.engine.specs.declared.operation.Operation.{Operation}
+use Rattle.motor.specs.declared.engine.command.Command.{Command}
+use Rattle.motor.specs.declared.engine.operation.Operation.{Operation}
 use Rattle.motor.specs.declared.feedback.Latest.the-variants as latest
 use Rattle.motor.specs.declared.motor.HeldFault.the-variants as fault
 use Rattle.motor.specs.declared.motor.Motor.{Motor}

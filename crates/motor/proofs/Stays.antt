@@ -16,11 +16,11 @@ use Rattle.codec.specs.declared.registers.ParameterInfo.the-variants as info
 use Rattle.codec.specs.Kinds.{among, kindNumber, infoOf}
 use Rattle.codec.specs.Refusals.{numberOf}
 use Rattle.codec.specs.Values.{kindIn, rawOf, encodedBy}
-use Rattle.engine.specs.declared.command.Command.{Command}
-use Rattle.engine.specs.declared.command.Command.the-variants as command
-use Rattle.engine.specs.declared.command.Said.{Said}
-use Rattle.engine.specs.declared.command.Said.the-variants as said
-use Rattle.engine.specs.declared.operation.Phase.{Phase}
+use Rattle.motor.specs.declared.engine.command.Command.{Command}
+use Rattle.motor.specs.declared.engine.command.Command.the-variants as command
+use Rattle.motor.specs.declared.engine.command.Said.{Said}
+use Rattle.motor.specs.declared.engine.command.Said.the-variants as said
+use Rattle.motor.specs.declared.engine.operation.Phase.{Phase}
 use Rattle.motor.specs.Calls.{isIdle, timeoutOf, arguedOf, encodes, orElse, admittedOf, startSaid, stepSaid}
 use Rattle.motor.specs.Numbers.{firstOf}
 use Rattle.motor.specs.Receive.{late}

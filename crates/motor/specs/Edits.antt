@@ -6,7 +6,7 @@ use Rattle.codec.specs.declared.bus.CanFrame.{CanFrame}
 use Rattle.codec.specs.declared.error.Refusal.the-variants.{FrameNotAccepted, TimeOutOfRange, ReadFailed, ReadingsFull}
 use Rattle.codec.specs.declared.error.Checked.{Checked}
 use Rattle.codec.specs.declared.error.Checked.the-variants.{Passed, Refused}
-use Rattle.engine.specs.declared.reading.Stored.{Stored}
+use Rattle.motor.specs.declared.engine.reading.Stored.{Stored}
 use Rattle.motor.specs.declared.motor.State.{State}
 use Rattle.motor.specs.declared.motor.Motor.{Motor}
 use Rattle.motor.specs.declared.readings.Readings.{Readings}

@@ -1,3 +1,4 @@
+pub mod engine
 pub mod Readings
 pub mod Numbers
 pub mod Receive

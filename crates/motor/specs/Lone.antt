@@ -9,10 +9,10 @@ use Rattle.codec.specs.declared.error.Refusal.the-variants as refusal
 use Rattle.codec.specs.declared.model.Model.{Model}
 use Rattle.codec.specs.declared.model.ModelNamed.{ModelNamed}
 use Rattle.codec.specs.Replies.{zeros}
-use Rattle.engine.specs.declared.command.Command.{Command}
-use Rattle.engine.specs.declared.command.Said.{Said}
-use Rattle.engine.specs.declared.command.Said.the-variants as said
-use Rattle.engine.specs.declared.operation.Move.{Move}
+use Rattle.motor.specs.declared.engine.command.Command.{Command}
+use Rattle.motor.specs.declared.engine.command.Said.{Said}
+use Rattle.motor.specs.declared.engine.command.Said.the-variants as said
+use Rattle.motor.specs.declared.engine.operation.Move.{Move}
 use Rattle.motor.specs.declared.motor.Seen.{Seen}
 use Rattle.motor.specs.declared.motor.State.{State}
 use Rattle.motor.specs.declared.readings.Entry.{Entry}
@@ -20,8 +20,8 @@ use Rattle.motor.specs.Calls.{registerNumbers, newState, sightOf, movedB
 use Rattle.motor.specs.Numbers.{firstOf}
 use Rattle.motor.specs.Readings.{lookup, insert, remove, room, listing}
 use Rattle.motor.specs.Receive.{frameSaid, stateAfter, readingsAfter, readId, readStored}
-use Rattle.engine.specs.Requests.{noFrame}
-use Rattle.engine.specs.Run.{advance, begin}
+use Rattle.motor.specs.engine.Requests.{noFrame}
+use Rattle.motor.specs.engine.Run.{advance, begin}
 
 -- clock, response count, feedback with its sequence, gains, fault report, ping reply and running operation; a list of readings in
 -- rising id

@@ -6,10 +6,10 @@ use Rattle.codec.specs.declared.error.Checked.{Checked}
 use Rattle.codec.specs.declared.error.Checked.the-variants as checked
 use Rattle.codec.specs.declared.model.Model.{Model}
 use Rattle.codec.specs.Replies.{zeros}
-use Rattle.engine.specs.declared.command.Command.{Command}
-use Rattle.engine.specs.declared.command.Said.{Said}
-use Rattle.engine.specs.declared.command.Said.the-variants as said
-use Rattle.engine.specs.declared.operation.Move.{Move}
+use Rattle.motor.specs.declared.engine.command.Command.{Command}
+use Rattle.motor.specs.declared.engine.command.Said.{Said}
+use Rattle.motor.specs.declared.engine.command.Said.the-variants as said
+use Rattle.motor.specs.declared.engine.operation.Move.{Move}
 use Rattle.motor.specs.declared.motor.Answered.{Answered}
 use Rattle.motor.specs.declared.motor.Seen.{Seen}
 use Rattle.motor.specs.declared.motor.Motor.{Motor}
@@ -18,8 +18,8 @@ use Rattle.motor.specs.declared.receive.Heard.{Heard}
 use Rattle.motor.specs.Calls.{newState, sightOf, movedBy, readingsBy, wanted, startSaid, stepSaid, removeSaid}
 use Rattle.motor.specs.Lone.{Lone, LoneAnswered, LoneHeard}
 use Rattle.motor.specs.Readings.{Holds, emptyReadings, findOf, dropOf, listingOf}
-use Rattle.engine.specs.Requests.{noFrame}
-use Rattle.engine.specs.Run.{advance, begin}
+use Rattle.motor.specs.engine.Requests.{noFrame}
+use Rattle.motor.specs.engine.Run.{advance, begin}
 
 -- ---- new, start, step, look, removal
 

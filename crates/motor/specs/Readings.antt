@@ -7,15 +7,15 @@ use lib.Dec.{ltb, eqb}
 use lib.IntN.{pos}
 use lib.ListN.{length, getD, set, replicate}
 use Rattle.codec.specs.declared.protocol.ParameterValue.the-variants.{I8}
-use Rattle.engine.specs.declared.reading.Stored.{Stored}
+use Rattle.motor.specs.declared.engine.reading.Stored.{Stored}
 use Rattle.motor.specs.declared.readings.Reading.{Reading}
 use Rattle.motor.specs.declared.readings.Readings.{Readings}
 use Rattle.motor.specs.declared.readings.Entry.{Entry}
 use Rattle.motor.specs.declared.readings.Listing.{Listing}
 use Rattle.motor.specs.declared.readings.PutResult.{PutResult}
 use Rattle.motor.specs.declared.readings.PutAnswer.the-variants.{Kept, Full}
-use Rattle.engine.specs.declared.reading.Found.{Found}
-use Rattle.engine.specs.declared.reading.Found.the-variants.{Nothing, Held}
+use Rattle.motor.specs.declared.engine.reading.Found.{Found}
+use Rattle.motor.specs.declared.engine.reading.Found.the-variants.{Nothing, Held}
 
 -- ---- what is held: entries in rising id
 

@@ -19,7 +19,7 @@ use Rattle.codec.specs.Status.{statusFrame}
 use Rattle.codec.specs.Faults.{faultReport}
 use Rattle.codec.specs.Replies.{pingReply}
 use Rattle.codec.specs.Values.{readValue}
-use Rattle.engine.specs.declared.operation.HeldPing.{HeldPing}
+use Rattle.motor.specs.declared.engine.operation.HeldPing.{HeldPing}
 use Rattle.motor.specs.declared.feedback.MotorFeedbackState.{MotorFeedbackState}
 use Rattle.motor.specs.declared.feedback.FeedbackCache.{FeedbackCache}
 use Rattle.motor.specs.declared.feedback.Latest.the-variants as latest
@@ -27,7 +27,7 @@ use Rattle.motor.specs.declared.motor.HeldFault.{HeldFault}
 use Rattle.motor.specs.declared.motor.HeldFault.the-variants as fault
 use Rattle.motor.specs.declared.motor.State.{State}
 use Rattle.motor.specs.declared.motor.Motor.{Motor}
-use Rattle.engine.specs.declared.reading.Stored.{Stored}
+use Rattle.motor.specs.declared.engine.reading.Stored.{Stored}
 use Rattle.motor.specs.declared.readings.Readings.{Readings}
 use Rattle.motor.specs.declared.readings.PutAnswer.{PutAnswer}
 use Rattle.motor.specs.declared.readings.PutAnswer.the-variants.{Kept, Full}

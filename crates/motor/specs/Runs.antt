@@ -12,15 +12,15 @@ use Rattle.codec.specs.declared.model.Model.{Model}
 use Rattle.codec.specs.declared.protocol.ParameterValue.{ParameterValue}
 use Rattle.codec.specs.declared.word.Word.{Word}
 use Rattle.codec.specs.Replies.{zeros}
-use Rattle.engine.specs.declared.command.Command.{Command}
-use Rattle.engine.specs.declared.command.Outcome.{Outcome}
-use Rattle.engine.specs.declared.command.Said.{Said}
-use Rattle.engine.specs.declared.command.Said.the-variants as said
-use Rattle.engine.specs.declared.operation.Gains.{Gains}
+use Rattle.motor.specs.declared.engine.command.Command.{Command}
+use Rattle.motor.specs.declared.engine.command.Outcome.{Outcome}
+use Rattle.motor.specs.declared.engine.command.Said.{Said}
+use Rattle.motor.specs.declared.engine.command.Said.the-variants as said
+use Rattle.motor.specs.declared.engine.operation.Gains.{Gains}
 use Rattle.motor.specs.declared.motor.HeldFault.{HeldFault}
 use Rattle.motor.specs.declared.readings.Entry.{Entry}
 use Rattle.motor.specs.Lone.{Lone, LoneAnswered, loneNew, loneStart, loneStep, hears}
-use Rattle.engine.specs.Requests.{noFrame}
+use Rattle.motor.specs.engine.Requests.{noFrame}
 
 -- a word, eight bytes, a reading
 abbrev pub word : ℕ → Word

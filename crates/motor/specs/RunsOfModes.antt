@@ -9,13 +9,13 @@ use Rattle.codec.specs.declared.model.Model.the-variants.{Rs00}
 use Rattle.codec.specs.declared.registers.ControlMode.the-variants as mode
 use Rattle.codec.specs.Kinds.{among, listedIds, int8Ids, kindOf, infoOf}
 use Rattle.codec.specs.Replies.{zeros}
-use Rattle.engine.specs.declared.command.Command.the-variants as command
-use Rattle.engine.specs.declared.command.Outcome.the-variants as outcome
-use Rattle.engine.specs.Hosts.{candidatesOf}
+use Rattle.motor.specs.declared.engine.command.Command.the-variants as command
+use Rattle.motor.specs.declared.engine.command.Outcome.the-variants as outcome
+use Rattle.motor.specs.engine.Hosts.{candidatesOf}
 use Rattle.motor.specs.Lone.{hears}
 use Rattle.motor.specs.Receive.{accepts, late, counted, pingAfter, nextSequence, feedbackAfter, faultAfter, told, isRead, readStatus, readId, readStored, frameSaid, stateAfter, readingsAfter}
 use Rattle.motor.specs.Runs.{bytes, Input, Answer, start, step, fresh, status, reply, sent, waiting, finished, refused, passed, runs, Row, run, Holds}
-use Rattle.engine.specs.Script.{isMode}
+use Rattle.motor.specs.engine.Script.{isMode}
 
 -- the mode aimed at, and a time
 abbrev pub ensured : ℕ → Input

@@ -10,14 +10,14 @@ use Rattle.codec.specs.declared.registers.ControlMode.the-variants as mode
 use Rattle.codec.specs.Kinds.{among, listedIds, int8Ids, uint8Ids, uint16Ids, uint32Ids, kindOf, infoOf}
 use Rattle.codec.specs.Modes.{modeRead}
 use Rattle.codec.specs.Motion.{clamped, motionRaw, gainRaw}
-use Rattle.engine.specs.declared.command.Command.{Command}
-use Rattle.engine.specs.declared.command.Command.the-variants as command
-use Rattle.engine.specs.declared.command.Outcome.the-variants as outcome
-use Rattle.engine.specs.declared.operation.Gains.{Gains}
+use Rattle.motor.specs.declared.engine.command.Command.{Command}
+use Rattle.motor.specs.declared.engine.command.Command.the-variants as command
+use Rattle.motor.specs.declared.engine.command.Outcome.the-variants as outcome
+use Rattle.motor.specs.declared.engine.operation.Gains.{Gains}
 use Rattle.motor.specs.Lone.{hears}
 use Rattle.motor.specs.Receive.{accepts, late, counted, pingAfter, nextSequence, feedbackAfter, faultAfter, told, isRead, readStatus, readId, readStored, frameSaid, stateAfter, readingsAfter}
 use Rattle.motor.specs.Runs.{word, bytes, Input, start, step, fresh, status, reply, sent, waiting, finished, finishedWith, refused, passed, runs, after, Row, run, gains, Holds}
-use Rattle.engine.specs.Script.{stopGain}
+use Rattle.motor.specs.engine.Script.{stopGain}
 
 -- ---- modes 2, 1 and 5 write; 3 is 17
 

@@ -10,14 +10,14 @@ use Rattle.codec.specs.declared.protocol.ParameterValue.the-variants as value
 use Rattle.codec.specs.Faults.{faultReport}
 use Rattle.codec.specs.Kinds.{among, listedIds, int8Ids, uint8Ids, kindOf, infoOf}
 use Rattle.codec.specs.Replies.{zeros}
-use Rattle.engine.specs.declared.command.Command.the-variants as command
-use Rattle.engine.specs.declared.command.Outcome.the-variants as outcome
-use Rattle.engine.specs.declared.command.Said.the-variants as said
+use Rattle.motor.specs.declared.engine.command.Command.the-variants as command
+use Rattle.motor.specs.declared.engine.command.Outcome.the-variants as outcome
+use Rattle.motor.specs.declared.engine.command.Said.the-variants as said
 use Rattle.motor.specs.declared.motor.HeldFault.the-variants as held-fault
-use Rattle.engine.specs.Hosts.{candidatesOf}
+use Rattle.motor.specs.engine.Hosts.{candidatesOf}
 use Rattle.motor.specs.Lone.{hears}
 use Rattle.motor.specs.Receive.{accepts, late, counted, pingAfter, nextSequence, feedbackAfter, faultAfter, told, isRead, readStatus, readId, readStored, frameSaid, stateAfter, readingsAfter}
-use Rattle.engine.specs.Requests.{noFrame}
+use Rattle.motor.specs.engine.Requests.{noFrame}
 use Rattle.motor.specs.Runs.{bytes, held, start, step, frame, fresh, status, reply, answered, heard, sent, waiting, finished, finishedWith, refused, passed, runs, after, Row, run, readings, fault, Holds}
 
 -- ---- acknowledgements: enable (240) and save_parameters (500)

@@ -7,13 +7,13 @@ use Rattle.codec.specs.declared.protocol.ParameterValue.the-variants as value
 use Rattle.codec.specs.declared.registers.ControlMode.the-variants as mode
 use Rattle.codec.specs.Kinds.{among, listedIds, int8Ids, uint8Ids, uint16Ids, uint32Ids, kindOf, infoOf}
 use Rattle.codec.specs.Replies.{zeros}
-use Rattle.engine.specs.declared.command.Command.the-variants as command
-use Rattle.engine.specs.declared.command.Outcome.the-variants as outcome
-use Rattle.engine.specs.Hosts.{candidatesOf}
+use Rattle.motor.specs.declared.engine.command.Command.the-variants as command
+use Rattle.motor.specs.declared.engine.command.Outcome.the-variants as outcome
+use Rattle.motor.specs.engine.Hosts.{candidatesOf}
 use Rattle.motor.specs.Lone.{hears}
 use Rattle.motor.specs.Receive.{accepts, late, counted, pingAfter, nextSequence, feedbackAfter, faultAfter, told, isRead, readStatus, readId, readStored, frameSaid, stateAfter, readingsAfter}
 use Rattle.motor.specs.Runs.{word, bytes, start, step, fresh, status, sent, finished, finishedWith, refused, passed, runs, Row, run, Holds}
-use Rattle.engine.specs.Script.{absOf}
+use Rattle.motor.specs.engine.Script.{absOf}
 
 abbrev pub writes : List Row
 writes =

@@ -1,11 +1,11 @@
 // The arguments of a call: its timeout, and the numbers that only they can give.
+use crate::engine::command::Command;
 use codec::error::Checked;
 use codec::error::Refusal;
 use codec::protocol::EncodedValue;
 use codec::protocol::ParameterValue;
 use codec::protocol::encode_parameter_value;
 use codec::protocol::validate_protocol_cmd;
-use engine::command::Command;
 ghost use mathlib.Core.Path.{_≡_};
 ghost use Rattle.codec.specs.Values.{encodedValue};
 ghost use Rattle.motor.specs.Calls.{timeoutOf, hostChecked, newIdChecked, encodes, arguedOf};

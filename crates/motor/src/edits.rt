@@ -1,4 +1,5 @@
 // What a read reply stores: the state, and an edit of the readings, whose other records stay where they are.
+use crate::engine::reading::Stored;
 use crate::motor::Motor;
 use crate::motor::State;
 use crate::readings::PutAnswer;
@@ -14,7 +15,6 @@ use crate::receive::read_stored;
 use codec::bus::CanFrame;
 use codec::error::Checked;
 use codec::error::Refusal;
-use engine::reading::Stored;
 ghost use mathlib.Core.Path.{_≡_};
 ghost use Prim.Native.Nat.{_≤_, _<_};
 ghost use Rattle.motor.specs.Edits.{noEdit, addEdit, putEdit, readKept, readHeard};

@@ -1,16 +1,16 @@
 // What a move changes of what is held.
+use crate::engine::command::Command;
+use crate::engine::operation::Effect;
+use crate::engine::operation::Gains;
+use crate::engine::operation::HeldPing;
+use crate::engine::operation::Operation;
+use crate::engine::operation::Phase;
+use crate::engine::operation::Sight;
 use crate::motor::HeldFault;
 use crate::motor::State;
 use crate::readings::Readings;
 use crate::readings::drop_id;
 use codec::replies::PingReply;
-use engine::command::Command;
-use engine::operation::Effect;
-use engine::operation::Gains;
-use engine::operation::HeldPing;
-use engine::operation::Operation;
-use engine::operation::Phase;
-use engine::operation::Sight;
 ghost use mathlib.Core.Path.{_≡_};
 ghost use Rattle.motor.specs.Calls.{noPing, sightOf, gainsBy, faultBy, pingBy, readingsBy, commandIn, movedBy};
 ghost use Rattle.motor.specs.Readings.{dropOf};

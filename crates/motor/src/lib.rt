@@ -3,6 +3,7 @@
 mod arguments;
 pub mod edits;
 mod effects;
+pub mod engine;
 pub mod feedback;
 pub mod motor;
 pub mod quiet;

@@ -1,7 +1,7 @@
 // Readings: what a motor keeps for each parameter, in 96 records that form two chains.
+use crate::engine::reading::Found;
+use crate::engine::reading::Stored;
 use codec::protocol::ParameterValue;
-use engine::reading::Found;
-use engine::reading::Stored;
 ghost use mathlib.Core.Path.{_≡_};
 ghost use mathlib.Core.List.{List};
 ghost use Prim.Native.Nat.{_≤_, _<_};

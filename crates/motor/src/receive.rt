@@ -1,4 +1,6 @@
 // Receiving: what a frame does to what a motor holds.
+use crate::engine::operation::HeldPing;
+use crate::engine::reading::Stored;
 use crate::feedback::FeedbackCache;
 use crate::feedback::feedback_in;
 use crate::feedback::update;
@@ -18,8 +20,6 @@ use codec::protocol::CommunicationType;
 use codec::protocol::decode_read_parameter_value;
 use codec::protocol::ext_id_parts;
 use codec::replies::decode_ping_reply;
-use engine::operation::HeldPing;
-use engine::reading::Stored;
 ghost use mathlib.Core.Path.{_≡_};
 ghost use Prim.Native.Nat.{_+_, _*_};
 ghost use mathlib.Core.Bool.{true, false, _||_};

@@ -1,10 +1,10 @@
 // A registration's tests that only its arguments decide.
+use crate::engine::script::LONGEST;
 use codec::error::Checked;
 use codec::error::Refusal;
 use codec::model::Model;
 use codec::model::ModelNamed;
 use codec::model::model_named;
-use engine::script::LONGEST;
 ghost use mathlib.Core.Path.{_≡_};
 ghost use Rattle.codec.specs.Models.{modelNamed};
 ghost use Rattle.codec.specs.declared.model.ModelNamed.the-variants as named;

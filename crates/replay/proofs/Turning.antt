@@ -9,7 +9,7 @@ use Rattle.session.specs.declared.event.Event.the-variants as event
 use Rattle.session.specs.Lines.{eventOf}
 use Rattle.station.specs.declared.station.Station.{Station}
 use Rattle.station.specs.Stations.{newStation, lookIn}
-use Rattle.lent.specs.Lent.{replyIn, stationIn}
+use Rattle.station.specs.lent.Lent.{replyIn, stationIn}
 use Rattle.answers.specs.Looks.{lookedText}
 use Rattle.text.specs.Words.{wordAt}
 use Rattle.replay.specs.Events.{stationAfter, textAfter, isFresh, otherText, shown, stationOfOther, textOfOther, stationAfterLine, textAfterLine}

@@ -6,16 +6,16 @@ use lib.Dec.{ltb, leb}
 use lib.ListN.{length, take, drop}
 use Rattle.codec.specs.declared.model.ModelNamed.{ModelNamed}
 use Rattle.codec.specs.Models.{modelNamed}
-use Rattle.engine.specs.Requests.{noFrame}
+use Rattle.motor.specs.engine.Requests.{noFrame}
 use Rattle.session.specs.declared.event.Event.{Event}
 use Rattle.session.specs.declared.event.Event.the-variants as event
 use Rattle.session.specs.Lines.{eventOf}
-use Rattle.lent.specs.declared.call.Ask.{Ask}
-use Rattle.lent.specs.declared.call.Ask.the-variants as ask
-use Rattle.lent.specs.declared.call.Asked.{Asked}
-use Rattle.lent.specs.declared.call.Reply.{Reply}
-use Rattle.lent.specs.declared.call.Reply.the-variants as reply
-use Rattle.lent.specs.declared.call.Replied.{Replied}
+use Rattle.station.specs.declared.lent.call.Ask.{Ask}
+use Rattle.station.specs.declared.lent.call.Ask.the-variants as ask
+use Rattle.station.specs.declared.lent.call.Asked.{Asked}
+use Rattle.station.specs.declared.lent.call.Reply.{Reply}
+use Rattle.station.specs.declared.lent.call.Reply.the-variants as reply
+use Rattle.station.specs.declared.lent.call.Replied.{Replied}
 use Rattle.answers.specs.Said.{toldText, saidText}
 use Rattle.bytes.specs.Bytes.{slice, indexOf}
 use Rattle.text.specs.Words.{wordAt}

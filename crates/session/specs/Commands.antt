@@ -12,8 +12,8 @@ use Rattle.codec.specs.declared.protocol.ParameterValue.the-variants as value
 use Rattle.codec.specs.declared.registers.ControlMode.{ControlMode}
 use Rattle.codec.specs.declared.registers.ControlMode.the-variants as mode
 use Rattle.codec.specs.declared.word.Word.{Word}
-use Rattle.engine.specs.declared.command.Command.{Command}
-use Rattle.engine.specs.declared.command.Command.the-variants as command
+use Rattle.motor.specs.declared.engine.command.Command.{Command}
+use Rattle.motor.specs.declared.engine.command.Command.the-variants as command
 use Rattle.text.specs.Ascii.{ascii}
 use Rattle.text.specs.Words.{wordAt, whichOf}
 use Rattle.session.specs.declared.arguments.Args.{Args}

@@ -11,7 +11,7 @@ use codec::protocol::ParameterValue;
 use codec::registers::ControlMode;
 use codec::word::Word;
 use codec::word::signed_of;
-use engine::command::Command;
+use motor::engine::command::Command;
 ghost use mathlib.Core.Path.{_≡_};
 ghost use Rattle.session.specs.Commands as spec;
 

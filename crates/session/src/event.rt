@@ -1,5 +1,5 @@
 // An event of a session.
-use engine::command::Command;
+use motor::engine::command::Command;
 
 // Why a line isn't an event. Words are counted from 1; a letter says what a word is to be (see arguments).
 pub enum Reason {

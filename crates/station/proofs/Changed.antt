@@ -11,9 +11,9 @@ use Rattle.codec.specs.declared.error.Refusal.{Refusal}
 use Rattle.codec.specs.declared.error.Refusal.the-variants as refusal
 use Rattle.codec.specs.Kinds.{among}
 use Rattle.codec.specs.Refusals.{numberOf}
-use Rattle.engine.specs.declared.command.Said.{Said}
-use Rattle.engine.specs.declared.command.Said.the-variants as said
-use Rattle.engine.proofs.Choices.{cond-yes}
+use Rattle.motor.specs.declared.engine.command.Said.{Said}
+use Rattle.motor.specs.declared.engine.command.Said.the-variants as said
+use Rattle.motor.proofs.engine.Choices.{cond-yes}
 use Rattle.motor.specs.declared.motor.State.{State}
 use Rattle.motor.specs.Lone.{Lone, loneStep, hears}
 use Rattle.motor.specs.Readings.{insert, room}

@@ -9,14 +9,14 @@ use Rattle.codec.specs.declared.error.Checked.{Checked}
 use Rattle.codec.specs.declared.error.Checked.the-variants as checked
 use Rattle.codec.specs.declared.error.Refusal.the-variants as refusal
 use Rattle.codec.specs.Kinds.{among}
-use Rattle.engine.specs.declared.command.Said.{Said}
-use Rattle.engine.specs.declared.command.Said.the-variants as said
-use Rattle.engine.specs.declared.operation.Effect.{Effect}
-use Rattle.engine.specs.declared.operation.Effect.the-variants as effect
-use Rattle.engine.specs.declared.operation.Operation.{Operation}
-use Rattle.engine.specs.declared.operation.Phase.{Phase}
-use Rattle.engine.specs.Run.{idle, advance}
-use Rattle.engine.proofs.Choices.{cond-yes}
+use Rattle.motor.specs.declared.engine.command.Said.{Said}
+use Rattle.motor.specs.declared.engine.command.Said.the-variants as said
+use Rattle.motor.specs.declared.engine.operation.Effect.{Effect}
+use Rattle.motor.specs.declared.engine.operation.Effect.the-variants as effect
+use Rattle.motor.specs.declared.engine.operation.Operation.{Operation}
+use Rattle.motor.specs.declared.engine.operation.Phase.{Phase}
+use Rattle.motor.specs.engine.Run.{idle, advance}
+use Rattle.motor.proofs.engine.Choices.{cond-yes}
 use Rattle.motor.specs.declared.motor.Motor.{Motor}
 use Rattle.motor.specs.declared.motor.State.{State}
 use Rattle.motor.specs.declared.readings.Readings.{Readings}

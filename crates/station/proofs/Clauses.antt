@@ -12,7 +12,7 @@ use Rattle.codec.specs.declared.error.Checked.the-variants as checked
 use Rattle.codec.specs.declared.error.Refusal.the-variants as refusal
 use Rattle.codec.specs.declared.model.Model.{Model}
 use Rattle.codec.specs.declared.model.ModelNamed.{ModelNamed}
-use Rattle.engine.specs.declared.command.Command.{Command}
+use Rattle.motor.specs.declared.engine.command.Command.{Command}
 use Rattle.motor.specs.declared.motor.Answered.{Answered}
 use Rattle.motor.specs.declared.motor.Motor.{Motor}
 use Rattle.motor.specs.declared.motor.Seen.{Seen}

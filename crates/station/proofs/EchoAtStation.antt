@@ -9,9 +9,9 @@ use Rattle.codec.specs.declared.bus.CanFrame.{CanFrame}
 use Rattle.codec.specs.declared.error.Checked.{Checked}
 use Rattle.codec.specs.declared.error.Checked.the-variants as checked
 use Rattle.codec.specs.declared.error.Refusal.the-variants as refusal
-use Rattle.engine.specs.declared.command.Command.{Command}
-use Rattle.engine.specs.declared.command.Command.the-variants as command
-use Rattle.engine.proofs.Choices.{cond-yes, cond-no}
+use Rattle.motor.specs.declared.engine.command.Command.{Command}
+use Rattle.motor.specs.declared.engine.command.Command.the-variants as command
+use Rattle.motor.proofs.engine.Choices.{cond-yes, cond-no}
 use Rattle.motor.specs.Calls.{startSaid}
 use Rattle.motor.specs.Lone.{Lone, loneStartBy, loneStart, hears}
 use Rattle.motor.specs.Receive.{accepts}

@@ -19,10 +19,10 @@ use Rattle.codec.specs.declared.registers.ParameterDataType.{ParameterDataType}
 use Rattle.codec.specs.declared.registers.ParameterInfo.the-variants as info
 use Rattle.codec.specs.Kinds.{infoOf}
 use Rattle.codec.specs.Values.{kindIn}
-use Rattle.engine.specs.declared.command.Command.{Command}
-use Rattle.engine.specs.declared.operation.Effect.{Effect}
-use Rattle.engine.specs.declared.operation.Effect.the-variants as effect
-use Rattle.engine.specs.Run.{advance, begin}
+use Rattle.motor.specs.declared.engine.command.Command.{Command}
+use Rattle.motor.specs.declared.engine.operation.Effect.{Effect}
+use Rattle.motor.specs.declared.engine.operation.Effect.the-variants as effect
+use Rattle.motor.specs.engine.Run.{advance, begin}
 use Rattle.motor.specs.declared.readings.Entry.{Entry}
 use Rattle.motor.specs.Calls.{sightOf, wanted, readingsBy, startSaid, stepSaid}
 use Rattle.motor.specs.Lone.{Lone, loneNew, loneStartBy, loneStepBy, hears, loneRemoval}

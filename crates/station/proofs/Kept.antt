@@ -7,7 +7,7 @@ use mathlib.Core.Option.{Option, none, some}
 use Rattle.codec.specs.declared.bus.CanFrame.{CanFrame}
 use Rattle.codec.specs.declared.error.Refusal.the-variants as refusal
 use Rattle.codec.specs.Kinds.{among}
-use Rattle.engine.specs.declared.command.Command.{Command}
+use Rattle.motor.specs.declared.engine.command.Command.{Command}
 use Rattle.motor.specs.Lone.{Lone, loneLook}
 use Rattle.station.specs.declared.station.Station.{Station}
 use Rattle.station.specs.Calls.{Answer, ok, no, shows}

@@ -11,7 +11,7 @@ use Rattle.codec.specs.declared.error.Checked.the-variants as checked
 use Rattle.codec.specs.declared.model.ModelNamed.{ModelNamed}
 use Rattle.codec.specs.Refusals.{numberOf}
 use Rattle.codec.specs.Kinds.{among}
-use Rattle.engine.specs.declared.command.Command.{Command}
+use Rattle.motor.specs.declared.engine.command.Command.{Command}
 use Rattle.motor.specs.declared.motor.Answered.{Answered}
 use Rattle.motor.specs.declared.motor.Motor.{Motor}
 use Rattle.motor.specs.declared.motor.State.{State}

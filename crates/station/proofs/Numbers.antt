@@ -13,13 +13,13 @@ use Rattle.codec.specs.declared.model.ModelNamed.{ModelNamed}
 use Rattle.codec.specs.declared.model.ModelNamed.the-variants as named
 use Rattle.codec.specs.Kinds.{among}
 use Rattle.codec.specs.Refusals.{numberOf}
-use Rattle.engine.specs.declared.command.Command.{Command}
-use Rattle.engine.specs.declared.command.Said.{Said}
-use Rattle.engine.specs.declared.command.Said.the-variants as said
-use Rattle.engine.specs.declared.operation.Effect.{Effect}
-use Rattle.engine.specs.declared.operation.Operation.{Operation}
-use Rattle.engine.specs.declared.operation.Phase.{Phase}
-use Rattle.engine.specs.Run.{advance}
+use Rattle.motor.specs.declared.engine.command.Command.{Command}
+use Rattle.motor.specs.declared.engine.command.Said.{Said}
+use Rattle.motor.specs.declared.engine.command.Said.the-variants as said
+use Rattle.motor.specs.declared.engine.operation.Effect.{Effect}
+use Rattle.motor.specs.declared.engine.operation.Operation.{Operation}
+use Rattle.motor.specs.declared.engine.operation.Phase.{Phase}
+use Rattle.motor.specs.engine.Run.{advance}
 use Rattle.motor.specs.Calls.{registerNumbers, isIdle, stepSaid, sightOf, wanted}
 use Rattle.motor.specs.Lone.{Lone, loneStep, loneStepBy, hears}
 use Rattle.motor.specs.Receive.{accepts, late, readId, frameNumbers, frameSaid}

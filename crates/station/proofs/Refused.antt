@@ -15,8 +15,8 @@ use Rattle.codec.specs.declared.model.ModelNamed.{ModelNamed}
 use Rattle.codec.specs.declared.model.ModelNamed.the-variants as named
 use Rattle.codec.specs.Kinds.{among}
 use Rattle.codec.specs.Refusals.{numberOf}
-use Rattle.engine.specs.declared.command.Said.{Said}
-use Rattle.engine.specs.declared.command.Said.the-variants as said
+use Rattle.motor.specs.declared.engine.command.Said.{Said}
+use Rattle.motor.specs.declared.engine.command.Said.the-variants as said
 use Rattle.motor.specs.Lone.{Lone, LoneAnswered, LoneHeard, loneStart, loneStep, hears, loneRemoval}
 use Rattle.motor.specs.Receive.{accepts}
 use Rattle.motor.proofs.Clock.{refused-nothing}

@@ -17,23 +17,23 @@ use Rattle.codec.specs.declared.registers.ParameterInfo.the-variants as info
 use Rattle.codec.specs.Kinds.{among, kindNumber, infoOf}
 use Rattle.codec.specs.Refusals.{numberOf}
 use Rattle.codec.specs.Values.{kindIn, rawOf, encodedBy, encodedValue}
-use Rattle.engine.specs.declared.command.Command.{Command}
-use Rattle.engine.specs.declared.command.Command.the-variants as command
-use Rattle.engine.specs.declared.command.Said.{Said}
-use Rattle.engine.specs.declared.command.Said.the-variants as said
-use Rattle.engine.specs.declared.node.Acked.{Acked}
-use Rattle.engine.specs.declared.node.Acked.the-variants as acked
-use Rattle.engine.specs.declared.node.Node.{Node}
-use Rattle.engine.specs.declared.node.Node.the-variants as node
-use Rattle.engine.specs.declared.node.Request.the-variants as request
-use Rattle.engine.specs.declared.operation.Move.{Move}
-use Rattle.engine.specs.declared.operation.Phase.{Phase}
-use Rattle.engine.specs.declared.operation.Sight.{Sight}
-use Rattle.engine.specs.declared.run.After.{After}
-use Rattle.engine.specs.declared.run.After.the-variants as after
-use Rattle.engine.specs.Operations.{begins, okOf}
-use Rattle.engine.specs.Run.{afterNode, sendThen, write, enter, begin}
-use Rattle.engine.specs.Script.{windowOf, tell}
+use Rattle.motor.specs.declared.engine.command.Command.{Command}
+use Rattle.motor.specs.declared.engine.command.Command.the-variants as command
+use Rattle.motor.specs.declared.engine.command.Said.{Said}
+use Rattle.motor.specs.declared.engine.command.Said.the-variants as said
+use Rattle.motor.specs.declared.engine.node.Acked.{Acked}
+use Rattle.motor.specs.declared.engine.node.Acked.the-variants as acked
+use Rattle.motor.specs.declared.engine.node.Node.{Node}
+use Rattle.motor.specs.declared.engine.node.Node.the-variants as node
+use Rattle.motor.specs.declared.engine.node.Request.the-variants as request
+use Rattle.motor.specs.declared.engine.operation.Move.{Move}
+use Rattle.motor.specs.declared.engine.operation.Phase.{Phase}
+use Rattle.motor.specs.declared.engine.operation.Sight.{Sight}
+use Rattle.motor.specs.declared.engine.run.After.{After}
+use Rattle.motor.specs.declared.engine.run.After.the-variants as after
+use Rattle.motor.specs.engine.Operations.{begins, okOf}
+use Rattle.motor.specs.engine.Run.{afterNode, sendThen, write, enter, begin}
+use Rattle.motor.specs.engine.Script.{windowOf, tell}
 use Rattle.motor.specs.Calls.{encodes, isIdle, timeoutOf, arguedOf, orElse, admittedOf, startSaid, sightOf}
 use Rattle.motor.specs.Lone.{Lone, loneStart, loneStartBy}
 use Rattle.motor.specs.Numbers.{firstOf}

@@ -46,14 +46,14 @@ use Rattle.codec.proofs.word.byte_of.Reads as byte-of
 use Rattle.codec.proofs.word.signed_of.Reads as signed-of
 use Rattle.codec.proofs.word.value.Reads as value-reads
 use Rattle.codec.proofs.word.word_of.Reads as word-of
-use Rattle.engine.specs.Hosts.{candidatesOf}
-use Rattle.engine.specs.Requests.{noFrame}
-use Rattle.engine.specs.Run.{idle, begin, advance, inTime}
-use Rattle.engine.proofs.candidates.host_candidates.Reads as host-candidates
-use Rattle.engine.proofs.moves.no_operation.Reads as no-operation-reads
-use Rattle.engine.proofs.requests.no_frame.Reads as no-frame-reads
-use Rattle.engine.proofs.run.begin_at.Reads as begin-at
-use Rattle.engine.proofs.run.advance_at.Reads as advance-at
+use Rattle.motor.specs.engine.Hosts.{candidatesOf}
+use Rattle.motor.specs.engine.Requests.{noFrame}
+use Rattle.motor.specs.engine.Run.{idle, begin, advance, inTime}
+use Rattle.motor.proofs.engine.candidates.host_candidates.Reads as host-candidates
+use Rattle.motor.proofs.engine.moves.no_operation.Reads as no-operation-reads
+use Rattle.motor.proofs.engine.requests.no_frame.Reads as no-frame-reads
+use Rattle.motor.proofs.engine.run.begin_at.Reads as begin-at
+use Rattle.motor.proofs.engine.run.advance_at.Reads as advance-at
 use Rattle.motor.specs.declared.readings.Entry.{Entry}
 use Rattle.motor.specs.Calls.{registrationOf}
 use Rattle.motor.specs.Edits.{readHeard}

@@ -15,11 +15,11 @@ use Rattle.codec.specs.declared.registers.ParameterInfo.the-variants as info
 use Rattle.codec.specs.Kinds.{infoOf}
 use Rattle.codec.specs.Values.{kindIn}
 use Rattle.codec.proofs.RoundTrips.{InRange}
-use Rattle.engine.specs.declared.command.Command.the-variants as command
-use Rattle.engine.specs.declared.command.Said.the-variants as said
-use Rattle.engine.specs.declared.reading.Found.{Found}
-use Rattle.engine.specs.declared.reading.Found.the-variants as found
-use Rattle.engine.specs.Requests.{noFrame}
+use Rattle.motor.specs.declared.engine.command.Command.the-variants as command
+use Rattle.motor.specs.declared.engine.command.Said.the-variants as said
+use Rattle.motor.specs.declared.engine.reading.Found.{Found}
+use Rattle.motor.specs.declared.engine.reading.Found.the-variants as found
+use Rattle.motor.specs.engine.Requests.{noFrame}
 use Rattle.motor.specs.declared.readings.Entry.{Entry}
 use Rattle.motor.specs.Lone.{Lone}
 use Rattle.motor.specs.Readings.{entry, lookup}

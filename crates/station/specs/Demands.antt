@@ -11,10 +11,10 @@ use Rattle.codec.specs.declared.model.Model.{Model}
 use Rattle.codec.specs.declared.model.ModelNamed.the-variants as named
 use Rattle.codec.specs.Kinds.{among}
 use Rattle.codec.specs.Refusals.{numberOf}
-use Rattle.engine.specs.declared.command.Command.{Command}
-use Rattle.engine.specs.declared.command.Said.the-variants as said
-use Rattle.engine.specs.declared.operation.Effect.the-variants as effect
-use Rattle.engine.specs.Run.{idle}
+use Rattle.motor.specs.declared.engine.command.Command.{Command}
+use Rattle.motor.specs.declared.engine.command.Said.the-variants as said
+use Rattle.motor.specs.declared.engine.operation.Effect.the-variants as effect
+use Rattle.motor.specs.engine.Run.{idle}
 use Rattle.motor.specs.Calls.{noCommand, movedBy}
 use Rattle.motor.specs.Lone.{Lone, loneNew}
 use Rattle.motor.specs.Receive.{counted}

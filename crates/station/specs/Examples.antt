@@ -21,15 +21,15 @@ use Rattle.codec.specs.Models.{rs, sameBytes, namedAmong, modelNamed}
 use Rattle.codec.specs.Modes.{modeRead}
 use Rattle.codec.specs.Refusals.{numberOf, valuesOf}
 use Rattle.codec.specs.Replies.{zeros, pingAnswer, versionAnswer}
-use Rattle.engine.specs.declared.command.Command.{Command}
-use Rattle.engine.specs.declared.command.Command.the-variants as command
-use Rattle.engine.specs.declared.command.Outcome.the-variants as outcome
-use Rattle.engine.specs.declared.command.Said.the-variants as said
-use Rattle.engine.specs.declared.candidates.Candidates.{Candidates}
-use Rattle.engine.specs.declared.reading.Found.the-variants as found
-use Rattle.engine.specs.Hosts.{candidatesOf}
-use Rattle.engine.specs.Requests.{noFrame}
-use Rattle.engine.specs.Script.{isMode}
+use Rattle.motor.specs.declared.engine.command.Command.{Command}
+use Rattle.motor.specs.declared.engine.command.Command.the-variants as command
+use Rattle.motor.specs.declared.engine.command.Outcome.the-variants as outcome
+use Rattle.motor.specs.declared.engine.command.Said.the-variants as said
+use Rattle.motor.specs.declared.engine.candidates.Candidates.{Candidates}
+use Rattle.motor.specs.declared.engine.reading.Found.the-variants as found
+use Rattle.motor.specs.engine.Hosts.{candidatesOf}
+use Rattle.motor.specs.engine.Requests.{noFrame}
+use Rattle.motor.specs.engine.Script.{isMode}
 use Rattle.motor.specs.declared.feedback.Latest.{Latest}
 use Rattle.motor.specs.declared.feedback.Latest.the-variants as latest
 use Rattle.motor.specs.Lone.{Lone, hears}

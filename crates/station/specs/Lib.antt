@@ -1,3 +1,4 @@
+pub mod lent
 pub mod Calls
 pub mod Station
 pub mod Stations

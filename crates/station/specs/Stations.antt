@@ -13,9 +13,9 @@ use Rattle.codec.specs.declared.model.Model.{Model}
 use Rattle.codec.specs.declared.model.Model.the-variants as models
 use Rattle.codec.specs.declared.model.ModelNamed.{ModelNamed}
 use Rattle.codec.specs.Replies.{zeros}
-use Rattle.engine.specs.declared.command.Command.{Command}
-use Rattle.engine.specs.declared.command.Said.the-variants as said
-use Rattle.engine.specs.Requests.{noFrame}
+use Rattle.motor.specs.declared.engine.command.Command.{Command}
+use Rattle.motor.specs.declared.engine.command.Said.the-variants as said
+use Rattle.motor.specs.engine.Requests.{noFrame}
 use Rattle.motor.specs.declared.motor.Answered.{Answered}
 use Rattle.motor.specs.declared.motor.Motor.{Motor}
 use Rattle.motor.specs.declared.receive.Heard.{Heard}

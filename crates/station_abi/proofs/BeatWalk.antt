@@ -35,8 +35,8 @@ use denote.Triple.Clauses.{Ended, Clauses, closing, Lasts, lasts, atExit}
 use denote.Triple.Walked.{Stays, stay-none, walkOf, AllGo, goes-none, ends-at, walked, walk-meets}
 use denote.Exit.{yes}
 use Rattle.motor.proofs.ThinWalk.{Held, row, still, Known, beside}
-use Rattle.lent.proofs.Frees.{has, bare, none as none-left, frees-behind}
-use Rattle.lent.proofs.Local.{env-of, locals-at, no-more-said, cell, lent-ref, lenders, lends-local, local-back}
+use Rattle.station.proofs.lent.Frees.{has, bare, none as none-left, frees-behind}
+use Rattle.station.proofs.lent.Local.{env-of, locals-at, no-more-said, cell, lent-ref, lenders, lends-local, local-back}
 
 -- ---- the loop
 

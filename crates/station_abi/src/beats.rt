@@ -5,12 +5,12 @@ use crate::frames::next_id;
 use crate::frames::passed;
 use crate::loaded::last_parameter;
 use crate::loaded::loaded;
-use lent::call::Ask;
-use lent::call::Asked;
-use lent::call::Replied;
-use lent::call::Reply;
-use lent::call::call;
 use motor::motor::Motor;
+use station::lent::call::Ask;
+use station::lent::call::Asked;
+use station::lent::call::Replied;
+use station::lent::call::Reply;
+use station::lent::call::call;
 ghost use Prim.Native.Nat.{_+_, _≤_, _<_};
 
 // How many frames are left, how many were not refused, and what the next one is.

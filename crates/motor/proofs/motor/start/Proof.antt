@@ -1,8 +1,8 @@
 -- Right because the tests decide, then the first node is entered; its meaning is start-both.
 use Rattle.motor.proofs.LoneOperating.{start-both}
 use Rattle.motor.specs.Motors.{movedOf, startBy}
-use Rattle.engine.specs.Run.{begin}
-use Rattle.engine.specs.declared.operation.Sight.{Sight}
+use Rattle.motor.specs.engine.Run.{begin}
+use Rattle.motor.specs.declared.engine.operation.Sight.{Sight}
 use Rattle.codec.specs.declared.error.Checked.{Checked}
 use Rattle.motor.proofs.InTime.{start-in-time, made}
 use mathlib.Core.Path.{sym, ap, _∙_}

@@ -2,9 +2,9 @@
 use Rattle.motor.proofs.LoneOperating.{step-both}
 use Rattle.motor.specs.Motors.{movedOf, stepBy}
 use Rattle.motor.specs.Calls.{sightOf}
-use Rattle.engine.specs.Run.{advance}
-use Rattle.engine.specs.declared.reading.Found.{Found}
-use Rattle.engine.specs.declared.operation.Sight.{Sight}
+use Rattle.motor.specs.engine.Run.{advance}
+use Rattle.motor.specs.declared.engine.reading.Found.{Found}
+use Rattle.motor.specs.declared.engine.operation.Sight.{Sight}
 use Rattle.codec.specs.declared.error.Checked.{Checked}
 use Rattle.motor.proofs.InTime.{step-in-time, made}
 use mathlib.Core.Path.{sym, ap, _∙_}

@@ -32,19 +32,19 @@ use Rattle.station.specs.Stations.{lookIn}
 use Rattle.station.proofs.station.Looked as looked-type
 use Rattle.station.proofs.station.Looked.Laws as looked-laws
 use Rattle.answers.specs.Looks.{lookedText}
-use Rattle.lent.specs.declared.call.Asked.{Asked}
-use Rattle.lent.specs.declared.call.Replied.{Replied}
-use Rattle.lent.specs.Lent.{stationOf, replyIn, stationIn}
-use Rattle.lent.proofs.call.Asked as asked-type
-use Rattle.lent.proofs.call.Asked.Laws as asked-laws
-use Rattle.lent.proofs.call.Replied as replied-type
-use Rattle.lent.proofs.call.Replied.Laws as replied-laws
-use Rattle.lent.proofs.call.call as called-at
-use Rattle.lent.proofs.call.call.Symbol as call-def
-use Rattle.lent.proofs.call.call.Met as call-thm
-use Rattle.lent.proofs.look.look as look-at
-use Rattle.lent.proofs.look.look.Symbol as look-def
-use Rattle.lent.proofs.look.look.Met as look-thm
+use Rattle.station.specs.declared.lent.call.Asked.{Asked}
+use Rattle.station.specs.declared.lent.call.Replied.{Replied}
+use Rattle.station.specs.lent.Lent.{stationOf, replyIn, stationIn}
+use Rattle.station.proofs.lent.call.Asked as asked-type
+use Rattle.station.proofs.lent.call.Asked.Laws as asked-laws
+use Rattle.station.proofs.lent.call.Replied as replied-type
+use Rattle.station.proofs.lent.call.Replied.Laws as replied-laws
+use Rattle.station.proofs.lent.call.call as called-at
+use Rattle.station.proofs.lent.call.call.Symbol as call-def
+use Rattle.station.proofs.lent.call.call.Met as call-thm
+use Rattle.station.proofs.lent.look.look as look-at
+use Rattle.station.proofs.lent.look.look.Symbol as look-def
+use Rattle.station.proofs.lent.look.look.Met as look-thm
 use Rattle.replay.specs.declared.cursor.Cursor.{Cursor}
 use Rattle.replay.specs.declared.turns.Line.{Line}
 use Rattle.replay.specs.declared.turns.Taken.{Taken}
@@ -73,7 +73,7 @@ use Rattle.replay.proofs.turns.take_line.Key as key
 use Rattle.replay.proofs.turns.take_line.Statement as stated
 use Rattle.replay.proofs.turns.take_line.Code as code
 use Rattle.replay.proofs.LineWalk as walk
-use Rattle.lent.proofs.Structs as array
+use Rattle.station.proofs.lent.Structs as array
 use Rattle.replay.proofs.Turning.{called, looked, other}
 
 -- ---- the types
@@ -214,8 +214,8 @@ take-line-spec 𝓤 H 𝓜 𝓖 𝓡 =
     (tables 𝓤 H 𝓜 𝓡 code.env .C) (tables 𝓤 H 𝓜 𝓡 code.env .Λ) key.name code.function (code.unfolded 𝓤 H 𝓜 𝓡)
     (meets 𝓤 H (𝓖 .A) (𝓜 .mem) (𝓡 .run) (givenOf 𝓤 H 𝓜 𝓖) (tablesOf 𝓤 H 𝓜 (tables 𝓤 H 𝓜 𝓡 code.env))
     (cited 𝓤 H (tripleOf 𝓤 H (𝓖 .A) asked-in.signature (asked-in.spec 𝓤 H (𝓖 .A) (𝓜 .mem) (𝓡 .run))) 𝓜 𝓡 code.env asked-def.name asked-def.routine code.calls-replay·turns·asked-in (asked-thm.met 𝓤 H 𝓜 𝓖 𝓡))
-    (cited 𝓤 H (tripleOf 𝓤 H (𝓖 .A) called-at.signature (called-at.spec 𝓤 H (𝓖 .A) (𝓜 .mem) (𝓡 .run))) 𝓜 𝓡 code.env call-def.name call-def.routine code.calls-lent·call·call (call-thm.met 𝓤 H 𝓜 𝓖 𝓡))
+    (cited 𝓤 H (tripleOf 𝓤 H (𝓖 .A) called-at.signature (called-at.spec 𝓤 H (𝓖 .A) (𝓜 .mem) (𝓡 .run))) 𝓜 𝓡 code.env call-def.name call-def.routine code.calls-station·lent·call·call (call-thm.met 𝓤 H 𝓜 𝓖 𝓡))
     (cited 𝓤 H (tripleOf 𝓤 H (𝓖 .A) reply.signature (reply.spec 𝓤 H (𝓖 .A) (𝓜 .mem) (𝓡 .run))) 𝓜 𝓡 code.env reply-def.name reply-def.routine code.calls-replay·turns·put-reply (reply-thm.met 𝓤 H 𝓜 𝓖 𝓡))
-    (cited 𝓤 H (tripleOf 𝓤 H (𝓖 .A) look-at.signature (look-at.spec 𝓤 H (𝓖 .A) (𝓜 .mem) (𝓡 .run))) 𝓜 𝓡 code.env look-def.name look-def.routine code.calls-lent·look·look (look-thm.met 𝓤 H 𝓜 𝓖 𝓡))
+    (cited 𝓤 H (tripleOf 𝓤 H (𝓖 .A) look-at.signature (look-at.spec 𝓤 H (𝓖 .A) (𝓜 .mem) (𝓡 .run))) 𝓜 𝓡 code.env look-def.name look-def.routine code.calls-station·lent·look·look (look-thm.met 𝓤 H 𝓜 𝓖 𝓡))
     (cited 𝓤 H (tripleOf 𝓤 H (𝓖 .A) show.signature (show.spec 𝓤 H (𝓖 .A) (𝓜 .mem) (𝓡 .run))) 𝓜 𝓡 code.env show-def.name show-def.routine code.calls-replay·turns·put-look (show-thm.met 𝓤 H 𝓜 𝓖 𝓡))
     (cited 𝓤 H (tripleOf 𝓤 H (𝓖 .A) by-value.signature (by-value.spec 𝓤 H (𝓖 .A) (𝓜 .mem) (𝓡 .run))) 𝓜 𝓡 code.env value-def.name value-def.routine code.calls-replay·turns·by-value (value-thm.met 𝓤 H 𝓜 𝓖 𝓡)))

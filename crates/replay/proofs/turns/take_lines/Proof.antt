@@ -42,7 +42,7 @@ use Rattle.replay.proofs.turns.take_lines.Key as key
 use Rattle.replay.proofs.turns.take_lines.Statement as stated
 use Rattle.replay.proofs.turns.take_lines.Code as code
 use Rattle.replay.proofs.LoopWalk as walk
-use Rattle.lent.proofs.Structs as array
+use Rattle.station.proofs.lent.Structs as array
 
 -- ---- the types
 

@@ -25,15 +25,15 @@ use Rattle.motor.specs.declared.motor.Motor.{Motor}
 use Rattle.motor.proofs.motor.Motor as motor-type
 use Rattle.motor.proofs.motor.Motor.Laws as motor-laws
 use Rattle.motor.proofs.ThinWalk as thin
-use Rattle.lent.specs.declared.call.Asked.{Asked}
-use Rattle.lent.specs.declared.call.Replied.{Replied}
-use Rattle.lent.proofs.call.Asked as asked-type
-use Rattle.lent.proofs.call.Asked.Laws as asked-laws
-use Rattle.lent.proofs.call.Replied as replied-type
-use Rattle.lent.proofs.call.Replied.Laws as replied-laws
-use Rattle.lent.proofs.call.call as called
-use Rattle.lent.proofs.call.call.Symbol as called-def
-use Rattle.lent.proofs.call.call.Met as called-thm
+use Rattle.station.specs.declared.lent.call.Asked.{Asked}
+use Rattle.station.specs.declared.lent.call.Replied.{Replied}
+use Rattle.station.proofs.lent.call.Asked as asked-type
+use Rattle.station.proofs.lent.call.Asked.Laws as asked-laws
+use Rattle.station.proofs.lent.call.Replied as replied-type
+use Rattle.station.proofs.lent.call.Replied.Laws as replied-laws
+use Rattle.station.proofs.lent.call.call as called
+use Rattle.station.proofs.lent.call.call.Symbol as called-def
+use Rattle.station.proofs.lent.call.call.Met as called-thm
 use Rattle.station_abi.specs.declared.beats.Beat.{Beat}
 use Rattle.station_abi.proofs.beats.Beat as beat-type
 use Rattle.station_abi.proofs.beats.Beat.Laws as beat-laws
@@ -48,7 +48,7 @@ use Rattle.station_abi.proofs.beats.beats.Key as key
 use Rattle.station_abi.proofs.beats.beats.Statement as stated
 use Rattle.station_abi.proofs.beats.beats.Code as code
 use Rattle.station_abi.proofs.BeatWalk as walk
-use Rattle.lent.proofs.Structs as array
+use Rattle.station.proofs.lent.Structs as array
 
 -- ---- the types
 
@@ -131,5 +131,5 @@ beats-spec 𝓤 H 𝓜 𝓖 𝓡 =
     (tables 𝓤 H 𝓜 𝓡 code.env .C) (tables 𝓤 H 𝓜 𝓡 code.env .Λ) key.name code.function (code.unfolded 𝓤 H 𝓜 𝓡)
     (meets 𝓤 H (𝓖 .A) (𝓜 .mem) (𝓡 .run) (givenOf 𝓤 H 𝓜 𝓖) (tablesOf 𝓤 H 𝓜 (tables 𝓤 H 𝓜 𝓡 code.env))
     (cited 𝓤 H (tripleOf 𝓤 H (𝓖 .A) asks.signature (asks.spec 𝓤 H (𝓖 .A) (𝓜 .mem) (𝓡 .run))) 𝓜 𝓡 code.env asks-def.name asks-def.routine code.calls-station-abi·beats·asked-at (asks-thm.met 𝓤 H 𝓜 𝓖 𝓡))
-    (cited 𝓤 H (tripleOf 𝓤 H (𝓖 .A) called.signature (called.spec 𝓤 H (𝓖 .A) (𝓜 .mem) (𝓡 .run))) 𝓜 𝓡 code.env called-def.name called-def.routine code.calls-lent·call·call (called-thm.met 𝓤 H 𝓜 𝓖 𝓡))
+    (cited 𝓤 H (tripleOf 𝓤 H (𝓖 .A) called.signature (called.spec 𝓤 H (𝓖 .A) (𝓜 .mem) (𝓡 .run))) 𝓜 𝓡 code.env called-def.name called-def.routine code.calls-station·lent·call·call (called-thm.met 𝓤 H 𝓜 𝓖 𝓡))
     (cited 𝓤 H (tripleOf 𝓤 H (𝓖 .A) next.signature (next.spec 𝓤 H (𝓖 .A) (𝓜 .mem) (𝓡 .run))) 𝓜 𝓡 code.env next-def.name next-def.routine code.calls-station-abi·beats·next-beat (next-thm.met 𝓤 H 𝓜 𝓖 𝓡)))

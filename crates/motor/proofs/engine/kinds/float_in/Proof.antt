@@ -1,0 +1,49 @@
+-- Right because only the float's arm gives a value, and it is the one held.
+use borrow.Author.Needs.{needs}
+use Rattle.motor.proofs.engine.kinds.float_in.Statement.{statement}
+use Rattle.motor.proofs.engine.kinds.float_in.Tie as tie
+
+enum-told : tie.Need-enum-told
+enum-told c = search needs
+
+enum-told-2 : tie.Need-enum-told-2
+enum-told-2 c = search needs
+
+enum-told-3 : tie.Need-enum-told-3
+enum-told-3 c = search needs
+
+enum-told-4 : tie.Need-enum-told-4
+enum-told-4 c = search needs
+
+enum-known-reading : tie.Need-enum-known-reading
+enum-known-reading c = search needs
+
+returns : tie.Need-returns
+returns c = search needs
+
+returns-2 : tie.Need-returns-2
+returns-2 c = search needs
+
+returns-3 : tie.Need-returns-3
+returns-3 c = search needs
+
+returns-4 : tie.Need-returns-4
+returns-4 c = search needs
+
+returns-5 : tie.Need-returns-5
+returns-5 c = rw (c .before .reading .given .1)
+
+pub float-in-spec : {M : Type 1} → statement M
+float-in-spec =
+    tie.close
+    (tie.spec
+    enum-told
+    enum-told-2
+    enum-told-3
+    enum-told-4
+    enum-known-reading
+    returns
+    returns-2
+    returns-3
+    returns-4
+    returns-5)

@@ -1,0 +1,26 @@
+-- Right because each arm is the definition's.
+use borrow.Author.Needs.{needs}
+use Rattle.motor.proofs.engine.moves.dropped_by.Statement.{statement}
+use Rattle.motor.proofs.engine.moves.dropped_by.Tie as tie
+
+enum-told : tie.Need-enum-told
+enum-told c = search needs
+
+enum-known-wait : tie.Need-enum-known-wait
+enum-known-wait c = search needs
+
+enum-told-2 : tie.Need-enum-told-2
+enum-told-2 c = search needs
+
+returns : tie.Need-returns
+returns c = search needs
+
+returns-2 : tie.Need-returns-2
+returns-2 c = rw (c .before .wait .given .1)
+
+returns-3 : tie.Need-returns-3
+returns-3 c = search needs
+
+pub dropped-by-spec : {M : Type 1} → statement M
+dropped-by-spec =
+    tie.close (tie.spec enum-told enum-known-wait enum-told-2 returns returns-2 returns-3)

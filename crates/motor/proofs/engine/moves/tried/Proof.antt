@@ -1,0 +1,33 @@
+-- Right because request, mark and effect are those of the wait, and the window is counted from now.
+use borrow.Author.Needs.{needs}
+use Rattle.motor.proofs.engine.moves.tried.Statement.{statement}
+use Rattle.motor.proofs.engine.moves.tried.Tie as tie
+
+add-due : tie.Need-add-due
+add-due c = search needs
+
+request-of-requires : tie.Need-request-of-requires
+request-of-requires c κs = search needs
+
+request-frame-requires : tie.Need-request-frame-requires
+request-frame-requires c κs = search needs
+
+mark-of-requires : tie.Need-mark-of-requires
+mark-of-requires c κs = search needs
+
+dropped-by-requires : tie.Need-dropped-by-requires
+dropped-by-requires c κs = search needs
+
+returns : tie.Need-returns
+returns c = rw (c .dropped-by .ensures, c .before .mark-of .ensures, c .before .before .request-frame .ensures, c .before .before .before .request-of .ensures)
+
+pub tried-spec : {M : Type 1} → statement M
+tried-spec =
+    tie.close
+    (tie.spec
+    add-due
+    request-of-requires
+    request-frame-requires
+    mark-of-requires
+    dropped-by-requires
+    returns)

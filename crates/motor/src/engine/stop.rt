@@ -1,0 +1,171 @@
+// Reads that ask for a kind, and controlled_stop.
+use crate::engine::command::Outcome;
+use crate::engine::kinds::FloatIn;
+use crate::engine::kinds::SignedIn;
+use crate::engine::kinds::float_in;
+use crate::engine::kinds::signed_in;
+use crate::engine::node::Acked;
+use crate::engine::node::Got;
+use crate::engine::node::Node;
+use crate::engine::operation::Sight;
+use crate::engine::script::failed_by_kind;
+use crate::engine::script::get_parameter;
+use crate::engine::script::write_float;
+use codec::error::Refusal;
+use codec::model::limits_of;
+use codec::protocol::ParameterValue;
+use codec::registers::ControlMode;
+use codec::registers::ModeRead;
+use codec::registers::ParameterId;
+use codec::word::Word;
+use codec::word::value;
+use codec::word::word_of;
+ghost use mathlib.Core.Path.{_≡_};
+ghost use Rattle.codec.specs.declared.protocol.ParameterValue.the-variants as value;
+ghost use Rattle.codec.specs.declared.registers.ControlMode.the-variants as mode;
+ghost use Rattle.motor.specs.declared.engine.command.Outcome.the-variants as outcome;
+ghost use Rattle.motor.specs.declared.engine.node.Acked.the-variants as acked;
+ghost use Rattle.motor.specs.declared.engine.node.Node.the-variants as node;
+ghost use Rattle.motor.specs.engine.Script.{signedIn, floatIn, asFlag, asSigned, asFloat, modeIn, asMode, put, stopGain, stopIn, stopAt};
+
+// ---- a reading of a kind, or 20
+
+pub(super) fn as_flag(reading: ParameterValue) -> Node
+    ensures { λ r. ⌜ r ≡ asFlag reading ⌝ }
+{
+    match reading {
+        ParameterValue::I8(_) => failed_by_kind(),
+        ParameterValue::U8(flag) => Node::Finish(Outcome::Flag(flag)),
+        ParameterValue::U16(_) => failed_by_kind(),
+        ParameterValue::U32(_) => failed_by_kind(),
+        ParameterValue::F32(_) => failed_by_kind(),
+    }
+}
+
+pub(super) fn as_f32(reading: ParameterValue) -> Node
+    ensures { λ r. ⌜ r ≡ asFloat (floatIn reading) (λ w. node.Finish (outcome.F32 w)) ⌝ }
+{
+    let FloatIn::Float(word) = float_in(reading) else {
+        return failed_by_kind();
+    };
+    Node::Finish(Outcome::F32(word))
+}
+
+pub(super) fn as_i8(reading: ParameterValue) -> Node
+    ensures { λ r. ⌜ r ≡ asSigned (signedIn reading) (λ n. node.Finish (outcome.I8 n)) ⌝ }
+{
+    let SignedIn::Signed(number) = signed_in(reading) else {
+        return failed_by_kind();
+    };
+    Node::Finish(Outcome::I8(number))
+}
+
+// ---- get_control_mode
+
+// The run mode of a reading: 20 where it is of another kind, 17 where it is no mode.
+fn mode_in(reading: ParameterValue) -> ModeRead
+    ensures { λ r. ⌜ r ≡ modeIn (signedIn reading) ⌝ }
+{
+    let SignedIn::Signed(number) = signed_in(reading) else {
+        return ModeRead::Refused(Refusal::ReadingOfAnotherKind);
+    };
+    ControlMode::from_raw(number)
+}
+
+pub(super) fn as_mode(reading: ParameterValue) -> Node
+    ensures { λ r. ⌜ r ≡ asMode (signedIn reading) (λ m. node.Finish (outcome.Mode m)) ⌝ }
+{
+    match mode_in(reading) {
+        ModeRead::Mode(mode) => Node::Finish(Outcome::Mode(mode)),
+        ModeRead::Refused(refusal) => Node::Fail(refusal),
+    }
+}
+
+// ---- controlled_stop
+
+// What holds a motor in this mode.
+fn stop_in(timeout: u64, mode: ControlMode) -> Node
+    ensures { λ r. ⌜ r ≡ stopIn timeout mode ⌝ }
+{
+    let zero = Word { bits: 0 };
+    match mode {
+        ControlMode::Mit => get_parameter(ParameterId::MECHANICAL_POSITION, timeout, Got::StopMit),
+        ControlMode::Position => write_float(
+            ParameterId::PP_VELOCITY_MAX,
+            zero,
+            Acked::Stopped(ControlMode::Position),
+        ),
+        ControlMode::Velocity => write_float(
+            ParameterId::VELOCITY_TARGET,
+            zero,
+            Acked::Stopped(ControlMode::Velocity),
+        ),
+        ControlMode::PositionCsp => get_parameter(
+            ParameterId::MECHANICAL_POSITION,
+            timeout,
+            Got::StopCsp,
+        ),
+    }
+}
+
+// The run mode is read.
+pub(super) fn stop_mode(timeout: u64, reading: ParameterValue) -> Node
+    ensures { λ r. ⌜ r ≡ asMode (signedIn reading) (stopIn timeout) ⌝ }
+{
+    match mode_in(reading) {
+        ModeRead::Mode(mode) => stop_in(timeout, mode),
+        ModeRead::Refused(refusal) => Node::Fail(refusal),
+    }
+}
+
+// csp: the angle read becomes the target.
+pub(super) fn stop_csp(reading: ParameterValue) -> Node
+    ensures { λ r. ⌜ r ≡ asFloat (floatIn reading) (λ w. put 0x7016 (value.F32 w) (acked.Stopped mode.PositionCsp)) ⌝ }
+{
+    let FloatIn::Float(angle) = float_in(reading) else {
+        return failed_by_kind();
+    };
+    write_float(
+        ParameterId::POSITION_TARGET,
+        angle,
+        Acked::Stopped(ControlMode::PositionCsp),
+    )
+}
+
+// A gain below 0.02 times its maximum becomes 0.10 times the maximum; NaN isn't below.
+fn stop_gain(held: Word, most: f32) -> Word
+    ensures { λ r. ⌜ r ≡ stopGain held most ⌝ }
+{
+    if value(held) < most * 0.02 {
+        return word_of(most * 0.10);
+    }
+    held
+}
+
+// mit: the angle read is sent as motion command, with velocity and torque 0.
+fn stop_at(sight: Sight, angle: Word) -> Node
+    ensures { λ r. ⌜ r ≡ stopAt sight angle ⌝ }
+{
+    let model = sight.model;
+    let most = limits_of(model);
+    let gains = sight.gains;
+    let kp = stop_gain(gains.kp, most.kp);
+    let kd = stop_gain(gains.kd, most.kd);
+    Node::Motion(
+        angle.bits,
+        0,
+        kp.bits,
+        kd.bits,
+        0,
+        Outcome::Mode(ControlMode::Mit),
+    )
+}
+
+pub(super) fn stop_mit(sight: Sight, reading: ParameterValue) -> Node
+    ensures { λ r. ⌜ r ≡ asFloat (floatIn reading) (stopAt sight) ⌝ }
+{
+    let FloatIn::Float(angle) = float_in(reading) else {
+        return failed_by_kind();
+    };
+    stop_at(sight, angle)
+}

@@ -1,0 +1,204 @@
+-- A lent station: what is asked and replied in numbers and enums, where a call goes, and what it leaves there. Definitions only.
+use Prim.Native.Nat.{ℕ, zero, suc}
+use mathlib.Core.Bool.{Bool, true, false, cond, not}
+use mathlib.Core.List.{List, [], _∷_}
+use lib.Dec.{eqb, ltb}
+use lib.ListN.{getD}
+use Rattle.codec.specs.declared.bus.CanFrame.{CanFrame}
+use Rattle.codec.specs.declared.error.Checked.{Checked}
+use Rattle.codec.specs.declared.error.Checked.the-variants as checked
+use Rattle.codec.specs.declared.error.Refusal.{Refusal}
+use Rattle.codec.specs.declared.error.Refusal.the-variants as refusal
+use Rattle.codec.specs.declared.model.ModelNamed.{ModelNamed}
+use Rattle.codec.specs.declared.model.ModelNamed.the-variants as named
+use Rattle.codec.specs.Replies.{zeros}
+use Rattle.motor.specs.declared.engine.command.Said.the-variants as said
+use Rattle.motor.specs.engine.Requests.{noFrame}
+use Rattle.motor.specs.declared.motor.Answered.{Answered}
+use Rattle.motor.specs.declared.motor.Motor.{Motor}
+use Rattle.motor.specs.declared.motor.State.{State}
+use Rattle.motor.specs.declared.receive.Heard.{Heard}
+use Rattle.motor.specs.declared.quiet.StateHeard.{StateHeard}
+use Rattle.motor.specs.declared.registration.Admission.{Admission}
+use Rattle.motor.specs.declared.registration.Admission.the-variants as admission
+use Rattle.motor.specs.Calls.{registrationOf}
+use Rattle.motor.specs.Edits.{edited, readHeard}
+use Rattle.motor.specs.Motors.{newMotor, startOf, stepOf, removalOf}
+use Rattle.motor.specs.Receive.{accepts, isRead, heardOf, stateHeard}
+use Rattle.station.specs.declared.lent.call.Ask.{Ask}
+use Rattle.station.specs.declared.lent.call.Ask.the-variants as ask
+use Rattle.station.specs.declared.lent.call.Asked.{Asked}
+use Rattle.station.specs.declared.lent.call.Reply.the-variants as reply
+use Rattle.station.specs.declared.lent.call.Replied.{Replied}
+use Rattle.station.specs.declared.lent.route.Route.{Route}
+use Rattle.station.specs.declared.lent.visit.Visited.{Visited}
+use Rattle.station.specs.declared.lent.visit.Kept.{Kept}
+use Rattle.station.specs.declared.lent.visit.Edited.{Edited}
+use Rattle.station.specs.declared.station.Moved.{Moved}
+use Rattle.station.specs.declared.station.Station.{Station}
+use Rattle.station.specs.Station.{source}
+use Rattle.station.specs.Stations.{freeMotor, registerIn, startIn, stepIn, frameIn, removeIn}
+
+-- ---- the promise: the by-value calls' answers and stations
+
+-- a station is its eight places
+abbrev pub stationOf : List Motor → Station
+stationOf ms = record { motors = ms }
+
+abbrev pub told : Checked → Replied
+told c = record { reply = reply.Told c; frame = noFrame; result = zeros }
+
+abbrev pub moved : Moved → Replied
+moved m = record { reply = reply.Moved (m .said); frame = m .frame; result = m .result }
+
+abbrev pub repliedTo : Station → Ask → CanFrame → Replied
+repliedTo st (ask.Register id host model wait time) f = told (registerIn st id host model wait time .said)
+repliedTo st (ask.Start id command time) f = moved (startIn st id command time)
+repliedTo st (ask.Step id time) f = moved (stepIn st id time)
+repliedTo st (ask.Frame time) f = told (frameIn st f time .said)
+repliedTo st (ask.Remove id time) f = told (removeIn st id time .said)
+
+abbrev pub stationAt : Station → Ask → CanFrame → Station
+stationAt st (ask.Register id host model wait time) f = registerIn st id host model wait time .station
+stationAt st (ask.Start id command time) f = startIn st id command time .station
+stationAt st (ask.Step id time) f = stepIn st id time .station
+stationAt st (ask.Frame time) f = frameIn st f time .station
+stationAt st (ask.Remove id time) f = removeIn st id time .station
+
+unfoldable pub replyIn : Station → Asked → Replied
+replyIn st a = repliedTo st (a .ask) (a .frame)
+
+unfoldable pub stationIn : Station → Asked → Station
+stationIn st a = stationAt st (a .ask) (a .frame)
+
+-- ---- where a call goes
+
+abbrev pub idsOf : List Motor → List ℕ
+idsOf ms =
+    getD ms 0 freeMotor .state .«motor_id»
+    ∷ getD ms 1 freeMotor .state .«motor_id»
+    ∷ getD ms 2 freeMotor .state .«motor_id»
+    ∷ getD ms 3 freeMotor .state .«motor_id»
+    ∷ getD ms 4 freeMotor .state .«motor_id»
+    ∷ getD ms 5 freeMotor .state .«motor_id»
+    ∷ getD ms 6 freeMotor .state .«motor_id»
+    ∷ getD ms 7 freeMotor .state .«motor_id»
+    ∷ []
+
+unfoldable pub indexIn : List ℕ → ℕ → ℕ
+indexIn [] id = zero
+indexIn (x ∷ xs) id = cond (eqb x id) zero (suc (indexIn xs id))
+
+unfoldable pub takenIn : List ℕ → ℕ → ℕ
+takenIn ids id = cond (eqb id 0) 8 (indexIn ids id)
+
+abbrev pub routeAt : ℕ → Bool → Bool → Route
+routeAt i quiet edits = record { «at» = i; said = checked.Passed; quiet = quiet; edits = edits }
+
+-- refused before any motor takes it
+abbrev pub nowhere : Refusal → Route
+nowhere r = record { «at» = 0; said = checked.Refused r; quiet = true; edits = false }
+
+unfoldable pub routeTo : List ℕ → ℕ → Refusal → Bool → Bool → Route
+routeTo ids id r quiet edits = cond (ltb (takenIn ids id) 8) (routeAt (takenIn ids id) quiet edits) (nowhere r)
+
+-- 5, 4
+unfoldable pub routeFree : List ℕ → ℕ → Route
+routeFree ids id =
+    cond (ltb (takenIn ids id) 8) (nowhere refusal.IdRegistered)
+    (cond (ltb (indexIn ids 0) 8) (routeAt (indexIn ids 0) false false) (nowhere refusal.StationFull))
+
+abbrev pub routeNew : List ℕ → ℕ → Admission → Route
+routeNew ids id (admission.Admitted model) = routeFree ids id
+routeNew ids id (admission.Refused r) = nowhere r
+
+unfoldable pub routeFrame : List ℕ → CanFrame → Route
+routeFrame ids f =
+    cond (accepts (source f) f) (routeTo ids (source f) refusal.FrameNotAccepted (not (isRead f)) (isRead f)) (nowhere refusal.FrameNotAccepted)
+
+abbrev pub routeBy : List ℕ → Ask → CanFrame → Route
+routeBy ids (ask.Register id host model wait time) f = routeNew ids id (registrationOf id host model wait time)
+routeBy ids (ask.Start id command time) f = routeTo ids id refusal.IdNotRegistered false false
+routeBy ids (ask.Step id time) f = routeTo ids id refusal.IdNotRegistered false false
+routeBy ids (ask.Frame time) f = routeFrame ids f
+routeBy ids (ask.Remove id time) f = routeTo ids id refusal.IdNotRegistered false false
+
+unfoldable pub routeOf : List ℕ → Asked → Route
+routeOf ids a = routeBy ids (a .ask) (a .frame)
+
+-- ---- what it leaves at its place
+
+abbrev pub notMoved : Refusal → Replied
+notMoved r = record { reply = reply.Moved (said.Refused r); frame = noFrame; result = zeros }
+
+abbrev pub refused : Ask → Refusal → Replied
+refused (ask.Register id host model wait time) r = told (checked.Refused r)
+refused (ask.Start id command time) r = notMoved r
+refused (ask.Step id time) r = notMoved r
+refused (ask.Frame time) r = told (checked.Refused r)
+refused (ask.Remove id time) r = told (checked.Refused r)
+
+abbrev pub visited : Motor → Replied → Visited
+visited m r = record { motor = m; replied = r }
+
+abbrev pub answeredAt : Answered → Visited
+answeredAt a = record { motor = a .motor; replied = record { reply = reply.Moved (a .said); frame = a .frame; result = a .result } }
+
+abbrev pub heardAt : Heard → Visited
+heardAt h = visited (h .motor) (told (h .said))
+
+abbrev pub removedAt : Motor → Checked → Visited
+removedAt m checked.Passed = visited freeMotor (told checked.Passed)
+removedAt m (checked.Refused r) = visited m (told (checked.Refused r))
+
+-- a registration that is admitted has its model
+abbrev pub enteredAt : Motor → ℕ → ℕ → ModelNamed → ℕ → ℕ → Visited
+enteredAt m id host (named.Known model) wait time = visited (newMotor id host model wait time) (told checked.Passed)
+enteredAt m id host named.Unknown wait time = visited m (told (checked.Refused refusal.UnknownModel))
+
+abbrev pub doneBy : Motor → Ask → CanFrame → Visited
+doneBy m (ask.Register id host model wait time) f = enteredAt m id host model wait time
+doneBy m (ask.Start id command time) f = answeredAt (startOf m command time)
+doneBy m (ask.Step id time) f = answeredAt (stepOf m time)
+doneBy m (ask.Frame time) f = heardAt (heardOf m f time)
+doneBy m (ask.Remove id time) f = removedAt m (removalOf m time)
+
+abbrev pub visitedBy : Checked → Motor → Asked → Visited
+visitedBy checked.Passed m a = doneBy m (a .ask) (a .frame)
+visitedBy (checked.Refused r) m a = visited m (refused (a .ask) r)
+
+unfoldable pub visitedOf : Motor → Asked → Route → Visited
+visitedOf m a r = visitedBy (r .said) m a
+
+-- ---- the same of a quiet call: a frame that is no read reply, or a call that goes nowhere
+
+abbrev pub timeOf : Ask → ℕ
+timeOf (ask.Register id host model wait time) = time
+timeOf (ask.Start id command time) = time
+timeOf (ask.Step id time) = time
+timeOf (ask.Frame time) = time
+timeOf (ask.Remove id time) = time
+
+abbrev pub kept : State → Replied → Kept
+kept s r = record { state = s; replied = r }
+
+abbrev pub keptHeard : StateHeard → Kept
+keptHeard h = kept (h .state) (told (h .said))
+
+abbrev pub keptBy : Checked → State → Asked → Kept
+keptBy checked.Passed s a = keptHeard (stateHeard s (a .frame) (timeOf (a .ask)))
+keptBy (checked.Refused r) s a = kept s (refused (a .ask) r)
+
+unfoldable pub keptOf : State → Asked → Route → Kept
+keptOf s a r = keptBy (r .said) s a
+
+-- ---- the same of a call that edits: a read reply
+
+unfoldable pub editedOf : Motor → Asked → Edited
+editedOf m a =
+    let h = readHeard m (a .frame) (timeOf (a .ask)) in
+    record { state = h .state; edit = h .edit; replied = told (h .said) }
+
+-- the motor once an edit is stored
+abbrev pub editedMotor : Motor → Edited → Motor
+editedMotor m v = record { state = v .state; readings = edited (m .readings) (v .edit) }

@@ -1,0 +1,249 @@
+// What a call on a lent station leaves at its place, and its reply.
+use crate::lent::call::Ask;
+use crate::lent::call::Asked;
+use crate::lent::call::Replied;
+use crate::lent::call::Reply;
+use crate::lent::route::Route;
+use crate::place::free_motor;
+use codec::error::Checked;
+use codec::error::Refusal;
+use codec::model::ModelNamed;
+use motor::edits::Edit;
+use motor::edits::ReadHeard;
+use motor::edits::hear_read;
+use motor::engine::command::Said;
+use motor::engine::requests::no_frame;
+use motor::motor::Answered;
+use motor::motor::Motor;
+use motor::motor::State;
+use motor::motor::removal;
+use motor::quiet::StateHeard;
+use motor::quiet::hear_state;
+use motor::receive::Heard;
+use motor::receive::process_feedback_frame;
+ghost use mathlib.Core.Path.{_≡_};
+ghost use Prim.Native.Nat.{_<_};
+ghost use Rattle.station.specs.lent.Lent as spec;
+
+// A motor and the reply.
+pub struct Visited {
+    pub motor: Motor,
+    pub replied: Replied,
+}
+
+// The same where the readings stay.
+pub struct Kept {
+    pub state: State,
+    pub replied: Replied,
+}
+
+// The same where an edit says what becomes of them.
+pub struct Edited {
+    pub state: State,
+    pub edit: Edit,
+    pub replied: Replied,
+}
+
+// ---- replies
+
+fn told(said: Checked) -> Replied
+    ensures { λ r. ⌜ r ≡ spec.told said ⌝ }
+{
+    Replied {
+        reply: Reply::Told(said),
+        frame: no_frame(),
+        result: [0; 8],
+    }
+}
+
+fn not_moved(refusal: Refusal) -> Replied
+    ensures { λ r. ⌜ r ≡ spec.notMoved refusal ⌝ }
+{
+    Replied {
+        reply: Reply::Moved(Said::Refused(refusal)),
+        frame: no_frame(),
+        result: [0; 8],
+    }
+}
+
+// Refused before any motor takes it.
+fn refused(ask: Ask, refusal: Refusal) -> Replied
+    ensures { λ r. ⌜ r ≡ spec.refused ask refusal ⌝ }
+{
+    match ask {
+        Ask::Register {
+            id: _,
+            host: _,
+            model: _,
+            wait: _,
+            time: _,
+        } => told(Checked::Refused(refusal)),
+        Ask::Start {
+            id: _,
+            command: _,
+            time: _,
+        } => not_moved(refusal),
+        Ask::Step { id: _, time: _ } => not_moved(refusal),
+        Ask::Frame { time: _ } => told(Checked::Refused(refusal)),
+        Ask::Remove { id: _, time: _ } => told(Checked::Refused(refusal)),
+    }
+}
+
+// ---- what is left at the place
+
+fn leave(motor: Motor, replied: Replied) -> Visited
+    ensures { λ r. ⌜ r ≡ spec.visited motor replied ⌝ }
+{
+    Visited { motor, replied }
+}
+
+fn answered_at(a: Answered) -> Visited
+    ensures { λ r. ⌜ r ≡ spec.answeredAt a ⌝ }
+{
+    let motor = a.motor;
+    let said = a.said;
+    let frame = a.frame;
+    let result = a.result;
+    let replied = Replied {
+        reply: Reply::Moved(said),
+        frame,
+        result,
+    };
+    Visited { motor, replied }
+}
+
+fn heard_at(h: Heard) -> Visited
+    ensures { λ r. ⌜ r ≡ spec.heardAt h ⌝ }
+{
+    let motor = h.motor;
+    let said = h.said;
+    leave(motor, told(said))
+}
+
+// The place is free again where the motor may go.
+fn removed_at(m: Motor, said: Checked) -> Visited
+    ensures { λ r. ⌜ r ≡ spec.removedAt m said ⌝ }
+{
+    match said {
+        Checked::Passed => leave(free_motor(), told(Checked::Passed)),
+        Checked::Refused(refusal) => leave(m, told(Checked::Refused(refusal))),
+    }
+}
+
+// A new motor takes the place. What is admitted has a known model.
+fn entered_at(m: Motor, id: u16, host: u16, model: ModelNamed, wait: u64, time: u64) -> Visited
+    ensures { λ r. ⌜ r ≡ spec.enteredAt m id host model wait time ⌝ }
+{
+    match model {
+        ModelNamed::Known(known) => leave(
+            motor::motor::new(id, host, known, wait, time),
+            told(Checked::Passed),
+        ),
+        ModelNamed::Unknown => leave(m, told(Checked::Refused(Refusal::UnknownModel))),
+    }
+}
+
+fn done_at(m: Motor, asked: Asked) -> Visited
+    ensures { λ r. ⌜ r ≡ spec.doneBy m (asked .ask) (asked .frame) ⌝ }
+{
+    let ask = asked.ask;
+    match ask {
+        Ask::Register {
+            id,
+            host,
+            model,
+            wait,
+            time,
+        } => entered_at(m, id, host, model, wait, time),
+        Ask::Start {
+            id: _,
+            command,
+            time,
+        } => answered_at(motor::motor::start(m, command, time)),
+        Ask::Step { id: _, time } => answered_at(motor::motor::step(m, time)),
+        Ask::Frame { time } => heard_at(process_feedback_frame(m, asked.frame, time)),
+        Ask::Remove { id: _, time } => removed_at(m, removal(m, time)),
+    }
+}
+
+// A call at its place.
+pub(super) fn visited_at(m: Motor, asked: Asked, route: Route) -> Visited
+    ensures { λ r. ⌜ r ≡ spec.visitedOf m asked route ⌝ }
+{
+    let said = route.said;
+    let ask = asked.ask;
+    match said {
+        Checked::Passed => done_at(m, asked),
+        Checked::Refused(refusal) => leave(m, refused(ask, refusal)),
+    }
+}
+
+// ---- a quiet call
+
+fn time_of(ask: Ask) -> u64
+    ensures { λ r. ⌜ r ≡ spec.timeOf ask ⌝ }
+{
+    match ask {
+        Ask::Register {
+            id: _,
+            host: _,
+            model: _,
+            wait: _,
+            time,
+        } => time,
+        Ask::Start {
+            id: _,
+            command: _,
+            time,
+        } => time,
+        Ask::Step { id: _, time } => time,
+        Ask::Frame { time } => time,
+        Ask::Remove { id: _, time } => time,
+    }
+}
+
+fn kept_heard(h: StateHeard) -> Kept
+    ensures { λ r. ⌜ r ≡ spec.keptHeard h ⌝ }
+{
+    let state = h.state;
+    let said = h.said;
+    let replied = told(said);
+    Kept { state, replied }
+}
+
+fn keep(state: State, replied: Replied) -> Kept
+    ensures { λ r. ⌜ r ≡ spec.kept state replied ⌝ }
+{
+    Kept { state, replied }
+}
+
+// A call at its place, where it is a frame that is no read reply, or is refused.
+pub(super) fn kept_at(s: State, asked: Asked, route: Route) -> Kept
+    ensures { λ r. ⌜ r ≡ spec.keptOf s asked route ⌝ }
+{
+    let said = route.said;
+    let ask = asked.ask;
+    match said {
+        Checked::Passed => kept_heard(hear_state(s, asked.frame, time_of(ask))),
+        Checked::Refused(refusal) => keep(s, refused(ask, refusal)),
+    }
+}
+
+// ---- a call that edits
+
+// A read reply at its place.
+pub(super) fn edited_at(m: Motor, asked: Asked) -> Edited
+    ensures { λ r. ⌜ (r ≡ spec.editedOf m asked) × (r .edit .first < 97) × (r .edit .second < 97) ⌝ }
+{
+    let ask = asked.ask;
+    let h = hear_read(m, asked.frame, time_of(ask));
+    let state = h.state;
+    let edit = h.edit;
+    let said = h.said;
+    let replied = told(said);
+    Edited {
+        state,
+        edit,
+        replied,
+    }
+}
