@@ -29,4 +29,3 @@ pub mod Stays
 pub mod Clock
 pub mod Looks
 pub mod Echo
-pub mod ThinWalk

@@ -2,10 +2,4 @@ pub mod IdIndex
 pub mod Lending
 pub mod Looking
 pub mod LentRuns
-pub mod Lenses
 pub mod MotorParts
-pub mod CallWalk
-pub mod LookWalk
-pub mod Frees
-pub mod Local
-pub mod Structs

@@ -33,9 +33,9 @@ use Rattle.motor.proofs.readings.Readings as readings-type
 use Rattle.motor.proofs.readings.Readings.Laws as readings-laws
 use Rattle.motor.proofs.readings.Reading as record-type
 use Rattle.motor.proofs.readings.Reading.Laws as record-laws
-use Rattle.motor.proofs.ThinWalk as thin
-use Rattle.station.proofs.lent.Lenses as lens
-use Rattle.station.proofs.lent.Structs as structs
+use Rattle.walks.proofs.ThinWalk as thin
+use Rattle.walks.proofs.Lenses as lens
+use Rattle.walks.proofs.Structs as structs
 
 abbrev pub motor : thin.Held
 motor = thin.struct motor-type.the-type motor-laws.the-laws

@@ -39,7 +39,7 @@ use Rattle.motor.proofs.thin.process_feedback_frame_in_place as thin
 use Rattle.motor.proofs.thin.process_feedback_frame_in_place.Key as key
 use Rattle.motor.proofs.thin.process_feedback_frame_in_place.Statement as stated
 use Rattle.motor.proofs.thin.process_feedback_frame_in_place.Code as code
-use Rattle.motor.proofs.ThinWalk as walk
+use Rattle.walks.proofs.ThinWalk as walk
 
 abbrev motor : walk.Held
 motor = walk.struct motor-type.the-type motor-laws.the-laws

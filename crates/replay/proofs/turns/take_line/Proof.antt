@@ -25,7 +25,7 @@ use Rattle.text.specs.Put.{Put}
 use Rattle.motor.specs.declared.motor.Motor.{Motor}
 use Rattle.motor.proofs.motor.Motor as motor-type
 use Rattle.motor.proofs.motor.Motor.Laws as motor-laws
-use Rattle.motor.proofs.ThinWalk as thin
+use Rattle.walks.proofs.ThinWalk as thin
 use Rattle.station.specs.declared.station.Looked as looked-at
 use Rattle.station.specs.declared.station.Station.{Station}
 use Rattle.station.specs.Stations.{lookIn}
@@ -72,8 +72,8 @@ use Rattle.replay.proofs.turns.take_line as own
 use Rattle.replay.proofs.turns.take_line.Key as key
 use Rattle.replay.proofs.turns.take_line.Statement as stated
 use Rattle.replay.proofs.turns.take_line.Code as code
-use Rattle.replay.proofs.LineWalk as walk
-use Rattle.station.proofs.lent.Structs as array
+use Rattle.walks.proofs.LineWalk as walk
+use Rattle.walks.proofs.Structs as array
 use Rattle.replay.proofs.Turning.{called, looked, other}
 
 -- ---- the types

@@ -24,7 +24,7 @@ use denote.Triple.Clauses.{AtExit}
 use Rattle.motor.specs.declared.motor.Motor.{Motor}
 use Rattle.motor.proofs.motor.Motor as motor-type
 use Rattle.motor.proofs.motor.Motor.Laws as motor-laws
-use Rattle.motor.proofs.ThinWalk as thin
+use Rattle.walks.proofs.ThinWalk as thin
 use Rattle.replay.specs.declared.cursor.Cursor.{Cursor}
 use Rattle.replay.specs.declared.turns.Taken.{Taken}
 use Rattle.replay.proofs.cursor.Cursor as cursor-type
@@ -41,8 +41,8 @@ use Rattle.replay.proofs.turns.take_lines as own
 use Rattle.replay.proofs.turns.take_lines.Key as key
 use Rattle.replay.proofs.turns.take_lines.Statement as stated
 use Rattle.replay.proofs.turns.take_lines.Code as code
-use Rattle.replay.proofs.LoopWalk as walk
-use Rattle.station.proofs.lent.Structs as array
+use Rattle.walks.proofs.LoopWalk as walk
+use Rattle.walks.proofs.Structs as array
 
 -- ---- the types
 

@@ -24,7 +24,7 @@ use denote.Triple.Clauses.{lasts}
 use Rattle.motor.specs.declared.motor.Motor.{Motor}
 use Rattle.motor.proofs.motor.Motor as motor-type
 use Rattle.motor.proofs.motor.Motor.Laws as motor-laws
-use Rattle.motor.proofs.ThinWalk as thin
+use Rattle.walks.proofs.ThinWalk as thin
 use Rattle.station.specs.declared.lent.call.Asked.{Asked}
 use Rattle.station.specs.declared.lent.call.Replied.{Replied}
 use Rattle.station.proofs.lent.call.Asked as asked-type
@@ -47,8 +47,8 @@ use Rattle.station_abi.proofs.beats.beats as own
 use Rattle.station_abi.proofs.beats.beats.Key as key
 use Rattle.station_abi.proofs.beats.beats.Statement as stated
 use Rattle.station_abi.proofs.beats.beats.Code as code
-use Rattle.station_abi.proofs.BeatWalk as walk
-use Rattle.station.proofs.lent.Structs as array
+use Rattle.walks.proofs.BeatWalk as walk
+use Rattle.walks.proofs.Structs as array
 
 -- ---- the types
 

@@ -34,7 +34,7 @@ use Rattle.motor.proofs.readings.Reading.Laws as record-laws
 use Rattle.motor.proofs.edits.Edit as edit-type
 use Rattle.motor.proofs.edits.Edit.Laws as edit-laws
 use Rattle.motor.specs.Edits.{edited as edited-in}
-use Rattle.motor.proofs.ThinWalk as thin
+use Rattle.walks.proofs.ThinWalk as thin
 use Rattle.station.specs.declared.lent.call.Asked.{Asked}
 use Rattle.station.specs.declared.lent.call.Replied.{Replied}
 use Rattle.station.specs.declared.lent.route.Route.{Route}
@@ -71,8 +71,8 @@ use Rattle.station.proofs.lent.call.call as own
 use Rattle.station.proofs.lent.call.call.Key as key
 use Rattle.station.proofs.lent.call.call.Statement as stated
 use Rattle.station.proofs.lent.call.call.Code as code
-use Rattle.station.proofs.lent.CallWalk as walk
-use Rattle.station.proofs.lent.Lenses as lens
+use Rattle.walks.proofs.CallWalk as walk
+use Rattle.walks.proofs.Lenses as lens
 use Rattle.station.proofs.lent.MotorParts.{motor, state, reading, ident, with-state, with-record, with-next, with-free, far, small, size-fits, far-row, small-row, sight, states, all, frees, ones, links}
 use Rattle.station.proofs.lent.Lending.{full, quiet, edit}
 

@@ -23,7 +23,7 @@ use denote.Triple.Clauses.{lasts}
 use Rattle.motor.specs.declared.motor.Motor.{Motor}
 use Rattle.motor.proofs.motor.Motor as motor-type
 use Rattle.motor.proofs.motor.Motor.Laws as motor-laws
-use Rattle.motor.proofs.ThinWalk as thin
+use Rattle.walks.proofs.ThinWalk as thin
 use Rattle.station.specs.declared.station.Looked.{Looked}
 use Rattle.station.specs.Stations.{freeMotor}
 use Rattle.station.proofs.station.Looked as looked-type
@@ -42,7 +42,7 @@ use Rattle.station.proofs.lent.look.look as own
 use Rattle.station.proofs.lent.look.look.Key as key
 use Rattle.station.proofs.lent.look.look.Statement as stated
 use Rattle.station.proofs.lent.look.look.Code as code
-use Rattle.station.proofs.lent.LookWalk as walk
+use Rattle.walks.proofs.LookWalk as walk
 use Rattle.station.proofs.lent.MotorParts.{motor, ident, far, small, size-fits, sight, all}
 use Rattle.station.proofs.lent.Looking.{looked}
 

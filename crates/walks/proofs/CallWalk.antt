@@ -42,9 +42,9 @@ use denote.Triple.Entry.{onEntry}
 use denote.Triple.Spec.{Spec, Meets, tripleOf}
 use denote.Triple.Clauses.{Ended, Clauses, closing}
 use denote.Triple.Walked.{Stays, stay-ref, stay-none, walkOf, AllGo, goes-none, goes-ref, ends-at, walked, walk-meets}
-use Rattle.motor.proofs.ThinWalk.{Held, row, still, uint, Known, Answers, answerTy, beside}
-use Rattle.station.proofs.lent.Frees.{has, bare, none as none-left, frees-behind}
-use Rattle.station.proofs.lent.Lenses.{Sight, Lens, Rows, Routes, Edits, routeTyOf, routeValOf, editedTyOf}
+use Rattle.walks.proofs.ThinWalk.{Held, row, still, uint, Known, Answers, answerTy, beside}
+use Rattle.walks.proofs.Frees.{has, bare, none as none-left, frees-behind}
+use Rattle.walks.proofs.Lenses.{Sight, Lens, Rows, Routes, Edits, routeTyOf, routeValOf, editedTyOf}
 
 is-true : (b : Bool) → T b → b ≡ true
 is-true true t = refl

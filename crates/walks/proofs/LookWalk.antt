@@ -41,9 +41,9 @@ use denote.Triple.Entry.{onEntry}
 use denote.Triple.Spec.{Spec, Meets, tripleOf}
 use denote.Triple.Clauses.{Ended, Clauses, closing}
 use denote.Triple.Walked.{Stays, stay-ref, stay-none, walkOf, AllGo, goes-none, goes-ref, ends-at, walked, walk-meets}
-use Rattle.motor.proofs.ThinWalk.{Held, row, still, uint, Known, beside}
-use Rattle.station.proofs.lent.Frees.{has, none as none-left, frees-behind}
-use Rattle.station.proofs.lent.Lenses.{Sight}
+use Rattle.walks.proofs.ThinWalk.{Held, row, still, uint, Known, beside}
+use Rattle.walks.proofs.Frees.{has, none as none-left, frees-behind}
+use Rattle.walks.proofs.Lenses.{Sight}
 
 in-eight : {n : ℕ} → n ≡ 8 → (k : ℕ) → k < 8 → k < n
 in-eight e k l = subst (λ (m : ℕ). k < m) (sym e) l

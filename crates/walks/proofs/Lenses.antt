@@ -25,7 +25,7 @@ use denote.RattleType.{RattleType}
 use denote.Laws.{Is, Makes}
 use denote.Array.{arrayVal}
 use denote.Index.{place}
-use Rattle.motor.proofs.ThinWalk.{Held, row, uint}
+use Rattle.walks.proofs.ThinWalk.{Held, row, uint}
 
 -- what lies behind a reference is a cell at the raw form of its type
 pub whole-raw : {M : Type 1} {𝓤 : URA M} {H : Heap 𝓤} {A : Atoms 𝓤} {W : Given 𝓤 H A} {K : Type 0} → K → {q : Share} {τ : Ty} {b o : ℕ} {v : Val} → Part {𝓤 = 𝓤} {H = H} {A = A} K W (‵ (fat q (rawTy τ) b o v)) q τ b o v (λ u. ‵ (fat q (rawTy τ) b o u))

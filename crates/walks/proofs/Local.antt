@@ -23,7 +23,7 @@ use denote.Ref.{MutRef}
 use denote.Steps.{peeks, owned}
 use denote.Struct.Steps.{spelt}
 use denote.Lend.{lends-ref, ref-back}
-use Rattle.motor.proofs.ThinWalk.{Held, row, Known}
+use Rattle.walks.proofs.ThinWalk.{Held, row, Known}
 
 abbrev pub env-of : {M : Type 1} (𝓤 : URA M) (H : Heap 𝓤) → List Local → List ℕ → Env 𝓤 H
 env-of 𝓤 H [] bs = []

@@ -34,9 +34,9 @@ use denote.Triple.Spec.{Spec, Meets, tripleOf}
 use denote.Triple.Clauses.{Ended, Clauses, closing, Lasts, lasts, atExit}
 use denote.Triple.Walked.{Stays, stay-none, walkOf, AllGo, goes-none, ends-at, walked, walk-meets}
 use denote.Exit.{yes}
-use Rattle.motor.proofs.ThinWalk.{Held, row, still, Known, beside}
-use Rattle.station.proofs.lent.Frees.{has, bare, none as none-left, frees-behind}
-use Rattle.station.proofs.lent.Local.{env-of, locals-at, no-more-said, cell, lent-ref, lenders, lends-local, local-back}
+use Rattle.walks.proofs.ThinWalk.{Held, row, still, Known, beside}
+use Rattle.walks.proofs.Frees.{has, bare, none as none-left, frees-behind}
+use Rattle.walks.proofs.Local.{env-of, locals-at, no-more-said, cell, lent-ref, lenders, lends-local, local-back}
 
 -- ---- the loop
 

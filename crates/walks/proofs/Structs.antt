@@ -19,7 +19,7 @@ use denote.Struct.Struct.{Plains}
 use denote.Struct.Field.{array-field}
 use denote.Struct.Declared.{Declared, fields, row, field}
 use denote.Struct.Laws as LL
-use Rattle.motor.proofs.ThinWalk.{Held, held, Known}
+use Rattle.walks.proofs.ThinWalk.{Held, held, Known}
 
 map-twice : {X Y Z : Type 0} (f : X → Y) (g : Y → Z) (xs : List X) → map (λ x. g (f x)) xs ≡ map g (map f xs)
 map-twice f g [] = refl

@@ -41,10 +41,10 @@ use denote.Triple.Entry.{Args, onEntry}
 use denote.Triple.Spec.{Meets, tripleOf}
 use denote.Triple.Walked.{Stays, stay-none, stay-none-slice, stay-slice, walkOf, AllGo, goes-none, goes-none-slice, goes-slice, ends-at, walked, walk-meets}
 use denote.Triple.Clauses.{Ended, Lasts, lasts, AtExit, Clauses, closing}
-use Rattle.motor.proofs.ThinWalk.{Held, row, still, Known}
-use Rattle.station.proofs.lent.Frees.{has, bare, none as none-left, frees-behind}
-use Rattle.station.proofs.lent.Local.{env-of, locals-at, no-more-said, cell, lent-ref, lenders, lends-local, local-back}
-use Rattle.replay.proofs.Again.{LentAgain, lends-again-at, comes-back-at}
+use Rattle.walks.proofs.ThinWalk.{Held, row, still, Known}
+use Rattle.walks.proofs.Frees.{has, bare, none as none-left, frees-behind}
+use Rattle.walks.proofs.Local.{env-of, locals-at, no-more-said, cell, lent-ref, lenders, lends-local, local-back}
+use Rattle.walks.proofs.Again.{LentAgain, lends-again-at, comes-back-at}
 
 abbrev Bytes : Type 0
 Bytes = List ℕ

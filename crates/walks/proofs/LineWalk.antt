@@ -36,8 +36,8 @@ use denote.Triple.Entry.{onEntry}
 use denote.Triple.Spec.{Meets, tripleOf}
 use denote.Triple.Clauses.{Ended, Clauses, closing, ensured, lasts}
 use denote.Triple.Walked.{says, Stays, stay-dropped, gave-ref, gave-slice, walkOf, AllGo, goes-dropped, goes-gave-ref, goes-gave-slice, ends-at, walked, walk-meets}
-use Rattle.motor.proofs.ThinWalk.{Held, row, still, Known, Answers, answerTy}
-use Rattle.station.proofs.lent.Frees.{has, bare, none as none-left, frees-behind}
+use Rattle.walks.proofs.ThinWalk.{Held, row, still, Known, Answers, answerTy}
+use Rattle.walks.proofs.Frees.{has, bare, none as none-left, frees-behind}
 
 abbrev U : Type 0
 U = Unit {0}
