@@ -1,5 +1,5 @@
 // The station: up to 8 motors with different ids, and the six calls on them. The station goes in by value and comes back beside
 // the answer. No public function asks anything of its caller; each promises its whole result.
 pub mod lent;
-pub mod place;
+mod place;
 pub mod station;

@@ -8,7 +8,7 @@ ghost use lib.ListN.{length, getD, set};
 ghost use Rattle.station.specs.Stations.{freeMotor, indexOf, takenPlace};
 
 // What stands in a free place.
-pub fn free_motor() -> Motor
+pub(crate) fn free_motor() -> Motor
     ensures { λ r. ⌜ r ≡ freeMotor ⌝ }
 {
     new(0, 0, Model::Rs00, 0, 0)

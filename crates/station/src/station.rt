@@ -172,7 +172,7 @@ pub fn step(st: Station, id: u16, now: u64) -> Moved
 // ---- frame: 13, then the motor's
 
 // The id of the motor that a frame comes from.
-pub fn source_of(frame: CanFrame) -> u16
+pub(crate) fn source_of(frame: CanFrame) -> u16
     ensures { λ r. ⌜ r ≡ source frame ⌝ }
 {
     let parts = ext_id_parts(frame.arbitration_id);
