@@ -1,6 +1,8 @@
 -- Names as the Rust has them. Definitions only.
 use Prim.Native.Nat.{ℕ}
 use mathlib.Core.List.{List}
+use Rattle.codec.specs.declared.model.Model.{Model}
+use Rattle.codec.specs.declared.model.Model.the-variants as model
 use Rattle.codec.specs.declared.registers.ControlMode.{ControlMode}
 use Rattle.codec.specs.declared.registers.ControlMode.the-variants as mode
 use Rattle.motor.specs.declared.engine.command.Command.{Command}
@@ -8,12 +10,22 @@ use Rattle.motor.specs.declared.engine.command.Command.the-variants as command
 use Rattle.text.specs.Ascii.{ascii}
 use Rattle.text.specs.Words.{wordAt}
 
--- the place of a mode and of a command among their names
+-- the place of a mode, a model and a command among their names
 unfoldable pub modePlace : ControlMode → ℕ
 modePlace mode.Mit = 0
 modePlace mode.Position = 1
 modePlace mode.Velocity = 2
 modePlace mode.PositionCsp = 3
+
+unfoldable pub modelPlace : Model → ℕ
+modelPlace model.Rs00 = 0
+modelPlace model.Rs01 = 1
+modelPlace model.Rs02 = 2
+modelPlace model.Rs03 = 3
+modelPlace model.Rs04 = 4
+modelPlace model.Rs05 = 5
+modelPlace model.Rs05el = 6
+modelPlace model.Rs06 = 7
 
 unfoldable pub commandPlace : Command → ℕ
 commandPlace (command.Ping t) = 0

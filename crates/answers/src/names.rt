@@ -5,7 +5,7 @@ use motor::engine::command::Command;
 ghost use mathlib.Core.Path.{_≡_};
 ghost use Rattle.text.specs.Put.{Put};
 ghost use Rattle.codec.specs.Models.{nameOf};
-ghost use Rattle.answers.specs.Names.{modePlace, commandPlace, modeName, commandName};
+ghost use Rattle.answers.specs.Names.{modePlace, modelPlace, commandPlace, modeName, commandName};
 
 // A mode's name.
 pub(crate) fn put_mode(mode: ControlMode, out: &mut [u8], at: usize) -> usize
@@ -31,15 +31,23 @@ fn mode_place(mode: ControlMode) -> usize
 pub(crate) fn put_model(model: Model, out: &mut [u8], at: usize) -> usize
     ensures { λ r. ⌜ Put (now (out .entry)) at (nameOf model) (now (out .exit)) r ⌝ }
 {
+    let k = model_place(model);
+    let name = text::word(b"rs-00 rs-01 rs-02 rs-03 rs-04 rs-05 rs-05el rs-06", k);
+    text::put_bytes(out, at, name)
+}
+
+fn model_place(model: Model) -> usize
+    ensures { λ r. ⌜ r ≡ modelPlace model ⌝ }
+{
     match model {
-        Model::Rs00 => text::put_bytes(out, at, b"rs-00"),
-        Model::Rs01 => text::put_bytes(out, at, b"rs-01"),
-        Model::Rs02 => text::put_bytes(out, at, b"rs-02"),
-        Model::Rs03 => text::put_bytes(out, at, b"rs-03"),
-        Model::Rs04 => text::put_bytes(out, at, b"rs-04"),
-        Model::Rs05 => text::put_bytes(out, at, b"rs-05"),
-        Model::Rs05el => text::put_bytes(out, at, b"rs-05el"),
-        Model::Rs06 => text::put_bytes(out, at, b"rs-06"),
+        Model::Rs00 => 0,
+        Model::Rs01 => 1,
+        Model::Rs02 => 2,
+        Model::Rs03 => 3,
+        Model::Rs04 => 4,
+        Model::Rs05 => 5,
+        Model::Rs05el => 6,
+        Model::Rs06 => 7,
     }
 }
 

@@ -48,27 +48,7 @@ fn put_carried(refusal: Refusal, out: &mut [u8], at: usize) -> usize
     match refusal {
         Refusal::ReadFailed { id, status } => put_read_failed(id, status, out, at),
         Refusal::ModeNotReached(last) => put_last(last, out, at),
-        Refusal::MotorIdOutOfRange => at,
-        Refusal::HostIdOutOfRange => at,
-        Refusal::UnknownModel => at,
-        Refusal::StationFull => at,
-        Refusal::IdRegistered => at,
-        Refusal::IdNotRegistered => at,
-        Refusal::TimeOutOfRange => at,
-        Refusal::OperationRunning => at,
-        Refusal::TimeoutTooLong => at,
-        Refusal::UnlistedParameter => at,
-        Refusal::KindDiffers => at,
-        Refusal::UnknownProtocol => at,
-        Refusal::FrameNotAccepted => at,
-        Refusal::ReadingsFull => at,
-        Refusal::WindowsGone => at,
-        Refusal::UnsupportedRunMode => at,
-        Refusal::NewDeviceIdZero => at,
-        Refusal::ReadingOfAnotherKind => at,
-        Refusal::NothingRunning => at,
-        Refusal::NotPingReply => at,
-        Refusal::NotVersionReply => at,
+        _ => at,
     }
 }
 

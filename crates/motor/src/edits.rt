@@ -162,11 +162,11 @@ pub fn hear_read(m: Motor, frame: CanFrame, now: u64) -> ReadHeard
     let edit = result.edit;
     let answer = result.said;
     match answer {
-        PutAnswer::Kept => ReadHeard {
+        PutAnswer::Kept => return ReadHeard {
             state,
             edit,
             said: Checked::Passed,
         },
-        PutAnswer::Full => read_kept(state, rs, Checked::Refused(Refusal::ReadingsFull)),
+        PutAnswer::Full => return read_kept(state, rs, Checked::Refused(Refusal::ReadingsFull)),
     }
 }

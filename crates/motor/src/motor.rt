@@ -204,8 +204,13 @@ pub fn start(m: Motor, command: Command, now: u64) -> Answered
     let operation = state.operation;
     let phase = operation.phase;
     match start_said(state.clock, phase, command, now) {
-        Checked::Passed => moved_by(m, now, command, begin_at(sight_of(state), now, command)),
-        Checked::Refused(refusal) => refused(m, refusal),
+        Checked::Passed => return moved_by(
+            m,
+            now,
+            command,
+            begin_at(sight_of(state), now, command),
+        ),
+        Checked::Refused(refusal) => return refused(m, refusal),
     }
 }
 
@@ -258,14 +263,14 @@ pub fn step(m: Motor, now: u64) -> Answered
     match step_said(state.clock, phase, now) {
         Checked::Passed => {
             let found = wanted_at(readings, phase);
-            moved_by(
+            return moved_by(
                 m,
                 now,
                 command,
                 advance_at(sight_of(state), now, operation, found),
-            )
+            );
         }
-        Checked::Refused(refusal) => refused(m, refusal),
+        Checked::Refused(refusal) => return refused(m, refusal),
     }
 }
 

@@ -261,8 +261,8 @@ fn read_heard(m: Motor, frame: CanFrame, now: u64) -> Heard
     let readings = result.readings;
     let answer = result.said;
     match answer {
-        PutAnswer::Kept => heard_with(state, readings, Checked::Passed),
-        PutAnswer::Full => heard_with(state, old, Checked::Refused(Refusal::ReadingsFull)),
+        PutAnswer::Kept => return heard_with(state, readings, Checked::Passed),
+        PutAnswer::Full => return heard_with(state, old, Checked::Refused(Refusal::ReadingsFull)),
     }
 }
 

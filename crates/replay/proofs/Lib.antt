@@ -1,3 +1,4 @@
 pub mod Fits
 pub mod Turning
 pub mod Cursors
+pub mod Texts

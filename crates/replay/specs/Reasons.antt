@@ -7,6 +7,7 @@ use Rattle.session.specs.declared.event.Reason.{Reason}
 use Rattle.session.specs.declared.event.Reason.the-variants as reason
 use Rattle.text.specs.Ascii.{ascii}
 use Rattle.text.specs.Put.{decimalOf}
+use Rattle.text.specs.Words.{partAt}
 
 -- what a letter of a shape asks for
 unfoldable pub wantedText : ℕ → List ℕ
@@ -26,6 +27,26 @@ countText n = ascii "this event has " ++ decimalOf n ++ ascii " words, parted by
 
 abbrev pub badWordText : ℕ → ℕ → List ℕ
 badWordText n letter = ascii "word " ++ decimalOf n ++ ascii " isn't " ++ wantedText letter
+
+-- the place of a reason that carries nothing among their texts, and 11 for any other
+unfoldable pub reasonPlace : Reason → ℕ
+reasonPlace reason.LineTooLong = 0
+reasonPlace reason.NoSuchEvent = 1
+reasonPlace reason.NoSuchCommand = 2
+reasonPlace (reason.WordCount n) = 11
+reasonPlace (reason.BadWord n letter) = 11
+reasonPlace reason.LogWords = 3
+reasonPlace reason.Stamp = 4
+reasonPlace reason.Direction = 5
+reasonPlace reason.FrameId = 6
+reasonPlace reason.FrameData = 7
+reasonPlace reason.RemoteFrame = 8
+reasonPlace reason.FdFrame = 9
+reasonPlace reason.ErrorFrame = 10
+
+-- the texts of reasons that carry nothing, parted by |
+abbrev pub plainText : Reason → List ℕ
+plainText r = partAt 0x7C (ascii "a line has at most 4096 bytes|no event begins with this word|start has no such command|a log's line is (SECONDS.MICROS) IFACE ID#DATA|a time is (SECONDS.MICROS), below 2^64 ms|only R or T may follow ID#DATA|ID is 8 or 3 hexadecimal digits before a #|DATA is 0 to 8 bytes, two digits each|a remote frame isn't handed in|a CAN FD frame isn't handed in|an id above 1FFFFFFF marks an error frame") (reasonPlace r)
 
 unfoldable pub reasonText : Reason → List ℕ
 reasonText reason.LineTooLong = ascii "a line has at most 4096 bytes"

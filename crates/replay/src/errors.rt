@@ -1,6 +1,7 @@
 // Why a line isn't an event, for people.
 use session::event::Reason;
 use text::put_bytes;
+ghost use mathlib.Core.Path.{_≡_};
 ghost use Rattle.text.specs.Put.{Put};
 ghost use Rattle.replay.specs.Reasons as spec;
 
@@ -17,19 +18,42 @@ fn put_reason(reason: Reason, out: &mut [u8], at: usize) -> usize
     ensures { λ r. ⌜ Put (now (out .entry)) at (spec.reasonText reason) (now (out .exit)) r ⌝ }
 {
     match reason {
-        Reason::LineTooLong => put_bytes(out, at, b"a line has at most 4096 bytes"),
-        Reason::NoSuchEvent => put_bytes(out, at, b"no event begins with this word"),
-        Reason::NoSuchCommand => put_bytes(out, at, b"start has no such command"),
         Reason::WordCount(n) => put_count(n, out, at),
         Reason::BadWord(n, letter) => put_bad_word(n, letter, out, at),
-        Reason::LogWords => put_bytes(out, at, b"a log's line is (SECONDS.MICROS) IFACE ID#DATA"),
-        Reason::Stamp => put_bytes(out, at, b"a time is (SECONDS.MICROS), below 2^64 ms"),
-        Reason::Direction => put_bytes(out, at, b"only R or T may follow ID#DATA"),
-        Reason::FrameId => put_bytes(out, at, b"ID is 8 or 3 hexadecimal digits before a #"),
-        Reason::FrameData => put_bytes(out, at, b"DATA is 0 to 8 bytes, two digits each"),
-        Reason::RemoteFrame => put_bytes(out, at, b"a remote frame isn't handed in"),
-        Reason::FdFrame => put_bytes(out, at, b"a CAN FD frame isn't handed in"),
-        Reason::ErrorFrame => put_bytes(out, at, b"an id above 1FFFFFFF marks an error frame"),
+        _ => put_plain(reason, out, at),
+    }
+}
+
+// A reason that carries nothing.
+fn put_plain(reason: Reason, out: &mut [u8], at: usize) -> usize
+    ensures { λ r. ⌜ Put (now (out .entry)) at (spec.plainText reason) (now (out .exit)) r ⌝ }
+{
+    let k = reason_place(reason);
+    let text = text::part(
+        b"a line has at most 4096 bytes|no event begins with this word|start has no such command|a log's line is (SECONDS.MICROS) IFACE ID#DATA|a time is (SECONDS.MICROS), below 2^64 ms|only R or T may follow ID#DATA|ID is 8 or 3 hexadecimal digits before a #|DATA is 0 to 8 bytes, two digits each|a remote frame isn't handed in|a CAN FD frame isn't handed in|an id above 1FFFFFFF marks an error frame",
+        b'|',
+        k,
+    );
+    put_bytes(out, at, text)
+}
+
+fn reason_place(reason: Reason) -> usize
+    ensures { λ r. ⌜ r ≡ spec.reasonPlace reason ⌝ }
+{
+    match reason {
+        Reason::LineTooLong => 0,
+        Reason::NoSuchEvent => 1,
+        Reason::NoSuchCommand => 2,
+        Reason::LogWords => 3,
+        Reason::Stamp => 4,
+        Reason::Direction => 5,
+        Reason::FrameId => 6,
+        Reason::FrameData => 7,
+        Reason::RemoteFrame => 8,
+        Reason::FdFrame => 9,
+        Reason::ErrorFrame => 10,
+        Reason::WordCount(_) => 11,
+        Reason::BadWord(_, _) => 11,
     }
 }
 
@@ -56,16 +80,11 @@ fn put_bad_word(n: usize, letter: u8, out: &mut [u8], at: usize) -> usize
 fn put_wanted(letter: u8, out: &mut [u8], at: usize) -> usize
     ensures { λ r. ⌜ Put (now (out .entry)) at (spec.wantedText letter) (now (out .exit)) r ⌝ }
 {
-    match letter {
-        b'B' => put_bytes(out, at, b"a number up to 255"),
-        b'H' => put_bytes(out, at, b"a number up to 0xFFFF"),
-        b'W' => put_bytes(out, at, b"a number up to 0xFFFFFFFF"),
-        b'F' => put_bytes(out, at, b"0 or 1"),
-        b'D' => put_bytes(out, at, b"16 hexadecimal digits"),
-        b'C' => put_bytes(out, at, b"mit, pp, velocity or csp"),
-        b'K' => put_bytes(out, at, b"i8, u8, u16, u32 or f32"),
-        b'V' => put_bytes(out, at, b"a value of its kind: it is wider"),
-        b'X' => put_bytes(out, at, b"a word"),
-        _ => put_bytes(out, at, b"a number below 2^64, in decimal or after 0x"),
-    }
+    let k = bytes::scan::find(b"BHWFDCKVX", 0, 9, letter);
+    let text = text::part(
+        b"a number up to 255|a number up to 0xFFFF|a number up to 0xFFFFFFFF|0 or 1|16 hexadecimal digits|mit, pp, velocity or csp|i8, u8, u16, u32 or f32|a value of its kind: it is wider|a word|a number below 2^64, in decimal or after 0x",
+        b'|',
+        k,
+    );
+    put_bytes(out, at, text)
 }

@@ -105,8 +105,8 @@ pub fn register(st: Station, id: u16, host: u16, name: &[u8], wait: u64, time: u
     ensures means { λ r. ⌜ ((s : List Place) → Shows st s → ToldAs r (stationCall s (call.register id host (modelNamed (now (name .entry))) wait time))) ⌝ }
 {
     match registration(id, host, name, wait, time) {
-        Admission::Admitted(model) => admitted(st, id, host, model, wait, time),
-        Admission::Refused(refusal) => tell(st, Checked::Refused(refusal)),
+        Admission::Admitted(model) => return admitted(st, id, host, model, wait, time),
+        Admission::Refused(refusal) => return tell(st, Checked::Refused(refusal)),
     }
 }
 
@@ -237,8 +237,8 @@ fn removed_at(st: Station, i: usize, said: Checked) -> Told
     ensures { λ r. ⌜ r ≡ removedAt said st i ⌝ }
 {
     match said {
-        Checked::Passed => tell(with_motor(st, i, free_motor()), Checked::Passed),
-        Checked::Refused(refusal) => tell(st, Checked::Refused(refusal)),
+        Checked::Passed => return tell(with_motor(st, i, free_motor()), Checked::Passed),
+        Checked::Refused(refusal) => return tell(st, Checked::Refused(refusal)),
     }
 }
 

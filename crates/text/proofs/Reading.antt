@@ -14,7 +14,7 @@ use borrow.Author.Tests.{lt-ltb, le-ltb, eq-eqb, ne-eqb}
 use Rattle.text.specs.declared.numbers.Num.{Num}
 use Rattle.text.specs.declared.numbers.Num.the-variants.{Value, Bad}
 use Rattle.text.specs.Numbers.{digitOf, readFrom, inBase}
-use Rattle.text.specs.Words.{wordsIn, wordAt, pastWord, sameBytes, whichOf}
+use Rattle.text.specs.Words.{wordsIn, partAt, wordAt, pastWord, sameBytes, whichOf}
 
 -- the test before a multiplication is right: it refuses what reaches 2^64, and nothing else
 pub over : (base d n : ℕ) → 0 < base → d < base → base ≤ 16 → (18446744073709551615 - d) / base < n → 18446744073709551616 ≤ n * base + d
@@ -64,33 +64,43 @@ unfolding wordsIn
 words-done s = rw drop-length
 
 -- a search of the whole of s
-pub whole : (s : List ℕ) → 0 + indexOf 32 (slice 0 (length s) s) ≡ indexOf 32 s
+pub whole : (b : ℕ) (s : List ℕ) → 0 + indexOf b (slice 0 (length s) s) ≡ indexOf b s
 unfolding slice
-whole s = rw take-length (omega arith)
+whole b s = rw take-length (omega arith)
 
 drop-past : (n : ℕ) (s : List ℕ) → length s ≤ n → drop n s ≡ []
 drop-past n [] h = drop-nil n
 drop-past zero (b ∷ s) h = absurd (omega arith)
 drop-past (suc n) (b ∷ s) h = drop-past n s (omega arith)
 
-nothing : (k : ℕ) → wordAt [] k ≡ []
-unfolding wordAt indexOf
-nothing zero = refl
-nothing (suc k) = nothing k
+nothing : (b k : ℕ) → partAt b [] k ≡ []
+unfolding partAt indexOf
+nothing b zero = refl
+nothing b (suc k) = nothing b k
 
-pub word-first : (s : List ℕ) (k e : ℕ) → k ≡ 0 → e ≡ 0 + indexOf 32 (slice 0 (length s) s) → take e s ≡ wordAt s k
-unfolding wordAt
-word-first s k e z f = rw (z, f, whole s)
+module _ (b : ℕ) (s : List ℕ) (k e : ℕ) (f : e ≡ 0 + indexOf b (slice 0 (length s) s)) where
+  pub part-first : k ≡ 0 → take e s ≡ partAt b s k
+  unfolding partAt
+  part-first z = rw (z, f, whole b s)
 
-pub word-next : (s : List ℕ) (k e : ℕ) → (k ≡ 0 → ⊥) → e ≡ 0 + indexOf 32 (slice 0 (length s) s) → wordAt (drop (e + 1) s) (k - 1) ≡ wordAt s k
-unfolding wordAt
-word-next s zero e z f = absurd (z refl)
-word-next s (suc k) e z f = let p : suc k - 1 ≡ k = omega arith in rw (p, f, whole s)
+  pub part-next : (k ≡ 0 → ⊥) → partAt b (drop (e + 1) s) (k - 1) ≡ partAt b s k
+  unfolding partAt
+  part-next z = go k z
+    where
+      go : (k : ℕ) → (k ≡ 0 → ⊥) → partAt b (drop (e + 1) s) (k - 1) ≡ partAt b s k
+      go zero z = absurd (z refl)
+      go (suc k) z = let p : suc k - 1 ≡ k = omega arith in rw (p, f, whole b s)
 
-pub word-past : (s : List ℕ) (k e : ℕ) → (k ≡ 0 → ⊥) → e ≡ 0 + indexOf 32 (slice 0 (length s) s) → length s ≤ e → drop e s ≡ wordAt s k
-word-past s k e z f h =
-    let d : drop (e + 1) s ≡ [] = drop-past (e + 1) s (omega arith) in
-    drop-past e s h ∙ sym (nothing (k - 1)) ∙ (rw d at (word-next s k e z f))
+  pub part-past : (k ≡ 0 → ⊥) → length s ≤ e → drop e s ≡ partAt b s k
+  part-past z h =
+      let d : drop (e + 1) s ≡ [] = drop-past (e + 1) s (omega arith) in
+      drop-past e s h ∙ sym (nothing b (k - 1)) ∙ (rw d at (part-next z))
+
+-- words are parts, by spaces
+pub part-word : (s : List ℕ) (k : ℕ) → partAt 32 s k ≡ wordAt s k
+unfolding partAt wordAt
+part-word s zero = refl
+part-word s (suc k) = part-word (drop (indexOf 32 s + 1) s) k
 
 -- a part to the end of s is s from there on
 pub to-end : (n : ℕ) (s : List ℕ) → take (length s - n) (drop n s) ≡ drop n s
@@ -139,7 +149,7 @@ which-later names (suc n) w z e = let p : suc n - 1 ≡ n = omega arith in rw (p
 
 -- what follows the first space, and where there is none
 pub past-first : (s : List ℕ) (e : ℕ) → e ≡ 0 + indexOf 32 (slice 0 (length s) s) → drop (e + 1) s ≡ pastWord s
-past-first s e f = rw (f, whole s)
+past-first s e f = rw (f, whole 32 s)
 
 pub past-none : (s : List ℕ) (e : ℕ) → e ≡ 0 + indexOf 32 (slice 0 (length s) s) → length s ≤ e → drop e s ≡ pastWord s
 past-none s e f h = drop-past e s h ∙ sym (drop-past (e + 1) s (omega arith)) ∙ past-first s e f

@@ -11,6 +11,11 @@ unfoldable pub wordsIn : List ℕ → ℕ
 wordsIn [] = 1
 wordsIn (b ∷ s) = cond (eqb b 32) (wordsIn s + 1) (wordsIn s)
 
+-- what stands before the first b of s once k of them are passed; nothing where s has not so many
+unfoldable pub partAt : ℕ → List ℕ → ℕ → List ℕ
+partAt b s zero = take (indexOf b s) s
+partAt b s (suc k) = partAt b (drop (indexOf b s + 1) s) k
+
 -- what stands before the first space of s once k spaces are passed; nothing where s has not so many
 unfoldable pub wordAt : List ℕ → ℕ → List ℕ
 wordAt s zero = take (indexOf 32 s) s

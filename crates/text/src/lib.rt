@@ -14,6 +14,7 @@ pub use put::put_bytes;
 pub use put::put_decimal;
 pub use put::put_hex;
 pub use put::put_places;
+pub use words::part;
 pub use words::same;
 pub use words::which;
 pub use words::word;

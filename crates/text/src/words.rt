@@ -2,7 +2,7 @@
 // spaces, and two spaces together part an empty word.
 ghost use mathlib.Core.Path.{_≡_};
 ghost use Prim.Native.Nat.{_≤_};
-ghost use Rattle.text.specs.Words.{wordsIn, wordAt, pastWord, sameBytes, whichOf};
+ghost use Rattle.text.specs.Words.{wordsIn, partAt, wordAt, pastWord, sameBytes, whichOf};
 
 // How many words s has.
 pub fn word_count(s: &[u8]) -> usize
@@ -23,12 +23,19 @@ pub fn word_count(s: &[u8]) -> usize
 pub fn word(s: &[u8], k: usize) -> &[u8]
     ensures { λ r. ⌜ now r ≡ wordAt (now (s .entry)) k ⌝ }
 {
-    let end = bytes::scan::find(s, 0, s.len(), b' ');
+    part(s, b' ', k)
+}
+
+// Part k of s, counted from 0, where the byte b stands between parts; empty where s has no such part.
+pub fn part(s: &[u8], b: u8, k: usize) -> &[u8]
+    ensures { λ r. ⌜ now r ≡ partAt b (now (s .entry)) k ⌝ }
+{
+    let end = bytes::scan::find(s, 0, s.len(), b);
     if k == 0 {
         return &s[..end];
     }
     if end < s.len() {
-        return word(&s[end + 1..], k - 1);
+        return part(&s[end + 1..], b, k - 1);
     }
     &s[end..]
 }

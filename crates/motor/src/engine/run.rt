@@ -80,9 +80,9 @@ fn sent_then(now: u64, frame: CanFrame, then: Acked) -> Move
     ensures { λ r. ⌜ r ≡ sendThen now frame then (afterNode (okOf then)) ⌝ }
 {
     match after_node(acked(then)) {
-        After::Ends(outcome) => ended_with(outcome, frame, Effect::Nothing),
-        After::Pauses(time, next) => sent_on(frame, next, now + time as u64),
-        After::Goes => sent_on(frame, then, now),
+        After::Ends(outcome) => return ended_with(outcome, frame, Effect::Nothing),
+        After::Pauses(time, next) => return sent_on(frame, next, now + time as u64),
+        After::Goes => return sent_on(frame, then, now),
     }
 }
 
@@ -107,8 +107,8 @@ fn written(sight: Sight, now: u64, param_id: u16, value: ParameterValue, then: A
     ensures { λ r. ⌜ r ≡ write sight now «param_id» then (encodedValue «param_id» value) ⌝ }
 {
     match encode_parameter_value(param_id, value) {
-        EncodedValue::Raw(raw) => write_raw(sight, now, Request::Write(param_id, raw), then),
-        EncodedValue::Refused(refusal) => ended(Said::Refused(refusal), Effect::Nothing),
+        EncodedValue::Raw(raw) => return write_raw(sight, now, Request::Write(param_id, raw), then),
+        EncodedValue::Refused(refusal) => return ended(Said::Refused(refusal), Effect::Nothing),
     }
 }
 
@@ -216,7 +216,7 @@ fn looked(sight: Sight, now: u64, operation: Operation, found: Found, wait: Wait
     ensures { λ r. ⌜ r ≡ look sight now operation found wait ⌝ }
 {
     match wait {
-        Wait::Acknowledged(by, request, then) => looked_ack(
+        Wait::Acknowledged(by, request, then) => return looked_ack(
             sight,
             now,
             operation,
@@ -224,8 +224,8 @@ fn looked(sight: Sight, now: u64, operation: Operation, found: Found, wait: Wait
             request,
             then,
         ),
-        Wait::Value(id, then) => looked_value(sight, now, operation, id, then, found),
-        Wait::Ping(then) => looked_ping(sight, now, operation, then),
+        Wait::Value(id, then) => return looked_value(sight, now, operation, id, then, found),
+        Wait::Ping(then) => return looked_ping(sight, now, operation, then),
     }
 }
 
@@ -247,9 +247,9 @@ fn advanced(sight: Sight, now: u64, operation: Operation, found: Found) -> Move
 {
     let phase = operation.phase;
     match phase {
-        Phase::Idle => ended(Said::Refused(Refusal::NothingRunning), Effect::Nothing),
-        Phase::Pausing(then) => looked_pause(sight, now, operation, then),
-        Phase::Waiting(wait) => looked(sight, now, operation, found, wait),
+        Phase::Idle => return ended(Said::Refused(Refusal::NothingRunning), Effect::Nothing),
+        Phase::Pausing(then) => return looked_pause(sight, now, operation, then),
+        Phase::Waiting(wait) => return looked(sight, now, operation, found, wait),
     }
 }
 

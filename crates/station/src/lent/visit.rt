@@ -125,8 +125,8 @@ fn removed_at(m: Motor, said: Checked) -> Visited
     ensures { λ r. ⌜ r ≡ spec.removedAt m said ⌝ }
 {
     match said {
-        Checked::Passed => leave(free_motor(), told(Checked::Passed)),
-        Checked::Refused(refusal) => leave(m, told(Checked::Refused(refusal))),
+        Checked::Passed => return leave(free_motor(), told(Checked::Passed)),
+        Checked::Refused(refusal) => return leave(m, told(Checked::Refused(refusal))),
     }
 }
 
@@ -135,11 +135,11 @@ fn entered_at(m: Motor, id: u16, host: u16, model: ModelNamed, wait: u64, time: 
     ensures { λ r. ⌜ r ≡ spec.enteredAt m id host model wait time ⌝ }
 {
     match model {
-        ModelNamed::Known(known) => leave(
+        ModelNamed::Known(known) => return leave(
             motor::motor::new(id, host, known, wait, time),
             told(Checked::Passed),
         ),
-        ModelNamed::Unknown => leave(m, told(Checked::Refused(Refusal::UnknownModel))),
+        ModelNamed::Unknown => return leave(m, told(Checked::Refused(Refusal::UnknownModel))),
     }
 }
 
@@ -154,15 +154,15 @@ fn done_at(m: Motor, asked: Asked) -> Visited
             model,
             wait,
             time,
-        } => entered_at(m, id, host, model, wait, time),
+        } => return entered_at(m, id, host, model, wait, time),
         Ask::Start {
             id: _,
             command,
             time,
-        } => answered_at(motor::motor::start(m, command, time)),
-        Ask::Step { id: _, time } => answered_at(motor::motor::step(m, time)),
-        Ask::Frame { time } => heard_at(process_feedback_frame(m, asked.frame, time)),
-        Ask::Remove { id: _, time } => removed_at(m, removal(m, time)),
+        } => return answered_at(motor::motor::start(m, command, time)),
+        Ask::Step { id: _, time } => return answered_at(motor::motor::step(m, time)),
+        Ask::Frame { time } => return heard_at(process_feedback_frame(m, asked.frame, time)),
+        Ask::Remove { id: _, time } => return removed_at(m, removal(m, time)),
     }
 }
 
@@ -173,8 +173,8 @@ pub(super) fn visited_at(m: Motor, asked: Asked, route: Route) -> Visited
     let said = route.said;
     let ask = asked.ask;
     match said {
-        Checked::Passed => done_at(m, asked),
-        Checked::Refused(refusal) => leave(m, refused(ask, refusal)),
+        Checked::Passed => return done_at(m, asked),
+        Checked::Refused(refusal) => return leave(m, refused(ask, refusal)),
     }
 }
 
@@ -224,8 +224,8 @@ pub(super) fn kept_at(s: State, asked: Asked, route: Route) -> Kept
     let said = route.said;
     let ask = asked.ask;
     match said {
-        Checked::Passed => kept_heard(hear_state(s, asked.frame, time_of(ask))),
-        Checked::Refused(refusal) => keep(s, refused(ask, refusal)),
+        Checked::Passed => return kept_heard(hear_state(s, asked.frame, time_of(ask))),
+        Checked::Refused(refusal) => return keep(s, refused(ask, refusal)),
     }
 }
 

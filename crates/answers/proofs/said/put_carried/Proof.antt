@@ -1,9 +1,47 @@
 -- Right because only two refusals carry values, and the others put nothing.
+use Prim.Native.Nat.{ℕ}
+use mathlib.Core.Path.{_≡_, refl}
+use mathlib.Core.List.{List, [], _∷_}
+use types.Run.{OneOf, miss}
+use denote.Enum.Declared.{tagOf}
+use Rattle.codec.specs.declared.error.Refusal.{Refusal}
+use Rattle.codec.specs.declared.error.Refusal.the-variants as refusal
+use Rattle.codec.proofs.error.Refusal.{the-type}
 use Rattle.text.proofs.Putting.{put-nil}
 use Rattle.answers.specs.Said.{carried}
 use borrow.Author.Needs.{needs}
 use Rattle.answers.proofs.said.put_carried.Statement.{statement}
 use Rattle.answers.proofs.said.put_carried.Tie as tie
+
+-- the variants that carry nothing, by their numbers
+abbrev bare : List ℕ
+bare = 0 ∷ 1 ∷ 2 ∷ 3 ∷ 4 ∷ 5 ∷ 6 ∷ 7 ∷ 8 ∷ 9 ∷ 10 ∷ 11 ∷ 12 ∷ 14 ∷ 15 ∷ 16 ∷ 18 ∷ 19 ∷ 20 ∷ 21 ∷ 22 ∷ []
+
+nothing : (r : Refusal) → OneOf bare (tagOf the-type r) → carried r ≡ []
+unfolding carried
+nothing refusal.MotorIdOutOfRange h = refl
+nothing refusal.HostIdOutOfRange h = refl
+nothing refusal.UnknownModel h = refl
+nothing refusal.StationFull h = refl
+nothing refusal.IdRegistered h = refl
+nothing refusal.IdNotRegistered h = refl
+nothing refusal.TimeOutOfRange h = refl
+nothing refusal.OperationRunning h = refl
+nothing refusal.TimeoutTooLong h = refl
+nothing refusal.UnlistedParameter h = refl
+nothing refusal.KindDiffers h = refl
+nothing refusal.UnknownProtocol h = refl
+nothing refusal.FrameNotAccepted h = refl
+nothing (refusal.ReadFailed id status) h = absurd (miss bare 13 tt h)
+nothing refusal.ReadingsFull h = refl
+nothing refusal.WindowsGone h = refl
+nothing refusal.UnsupportedRunMode h = refl
+nothing (refusal.ModeNotReached last) h = absurd (miss bare 17 tt h)
+nothing refusal.NewDeviceIdZero h = refl
+nothing refusal.ReadingOfAnotherKind h = refl
+nothing refusal.NothingRunning h = refl
+nothing refusal.NotPingReply h = refl
+nothing refusal.NotVersionReply h = refl
 
 enum-known-refusal : tie.Need-enum-known-refusal
 enum-known-refusal c = search needs
@@ -16,69 +54,6 @@ enum-known-refusal-2 c = search needs
 
 put-last-requires : tie.Need-put-last-requires
 put-last-requires c κs = search needs
-
-enum-told : tie.Need-enum-told
-enum-told c = search needs
-
-enum-told-2 : tie.Need-enum-told-2
-enum-told-2 c = search needs
-
-enum-told-3 : tie.Need-enum-told-3
-enum-told-3 c = search needs
-
-enum-told-4 : tie.Need-enum-told-4
-enum-told-4 c = search needs
-
-enum-told-5 : tie.Need-enum-told-5
-enum-told-5 c = search needs
-
-enum-told-6 : tie.Need-enum-told-6
-enum-told-6 c = search needs
-
-enum-told-7 : tie.Need-enum-told-7
-enum-told-7 c = search needs
-
-enum-told-8 : tie.Need-enum-told-8
-enum-told-8 c = search needs
-
-enum-told-9 : tie.Need-enum-told-9
-enum-told-9 c = search needs
-
-enum-told-10 : tie.Need-enum-told-10
-enum-told-10 c = search needs
-
-enum-told-11 : tie.Need-enum-told-11
-enum-told-11 c = search needs
-
-enum-told-12 : tie.Need-enum-told-12
-enum-told-12 c = search needs
-
-enum-told-13 : tie.Need-enum-told-13
-enum-told-13 c = search needs
-
-enum-told-14 : tie.Need-enum-told-14
-enum-told-14 c = search needs
-
-enum-told-15 : tie.Need-enum-told-15
-enum-told-15 c = search needs
-
-enum-told-16 : tie.Need-enum-told-16
-enum-told-16 c = search needs
-
-enum-told-17 : tie.Need-enum-told-17
-enum-told-17 c = search needs
-
-enum-told-18 : tie.Need-enum-told-18
-enum-told-18 c = search needs
-
-enum-told-19 : tie.Need-enum-told-19
-enum-told-19 c = search needs
-
-enum-told-20 : tie.Need-enum-told-20
-enum-told-20 c = search needs
-
-enum-told-21 : tie.Need-enum-told-21
-enum-told-21 c = search needs
 
 same-length : tie.Need-same-length
 same-length c = search needs
@@ -95,88 +70,7 @@ unfolding carried
 returns-2 c = rw (c .before .before .before .before .before .refusal2 .given .1) (c .before .before .put-last .ensures)
 
 returns-3 : tie.Need-returns-3
-unfolding carried
-returns-3 c = rw (c .enum-told .given .1) (put-nil _ _)
-
-returns-4 : tie.Need-returns-4
-unfolding carried
-returns-4 c = rw (c .enum-told2 .given .1) (put-nil _ _)
-
-returns-5 : tie.Need-returns-5
-unfolding carried
-returns-5 c = rw (c .enum-told3 .given .1) (put-nil _ _)
-
-returns-6 : tie.Need-returns-6
-unfolding carried
-returns-6 c = rw (c .enum-told4 .given .1) (put-nil _ _)
-
-returns-7 : tie.Need-returns-7
-unfolding carried
-returns-7 c = rw (c .enum-told5 .given .1) (put-nil _ _)
-
-returns-8 : tie.Need-returns-8
-unfolding carried
-returns-8 c = rw (c .enum-told6 .given .1) (put-nil _ _)
-
-returns-9 : tie.Need-returns-9
-unfolding carried
-returns-9 c = rw (c .enum-told7 .given .1) (put-nil _ _)
-
-returns-10 : tie.Need-returns-10
-unfolding carried
-returns-10 c = rw (c .enum-told8 .given .1) (put-nil _ _)
-
-returns-11 : tie.Need-returns-11
-unfolding carried
-returns-11 c = rw (c .enum-told9 .given .1) (put-nil _ _)
-
-returns-12 : tie.Need-returns-12
-unfolding carried
-returns-12 c = rw (c .enum-told10 .given .1) (put-nil _ _)
-
-returns-13 : tie.Need-returns-13
-unfolding carried
-returns-13 c = rw (c .enum-told11 .given .1) (put-nil _ _)
-
-returns-14 : tie.Need-returns-14
-unfolding carried
-returns-14 c = rw (c .enum-told12 .given .1) (put-nil _ _)
-
-returns-15 : tie.Need-returns-15
-unfolding carried
-returns-15 c = rw (c .enum-told13 .given .1) (put-nil _ _)
-
-returns-16 : tie.Need-returns-16
-unfolding carried
-returns-16 c = rw (c .enum-told14 .given .1) (put-nil _ _)
-
-returns-17 : tie.Need-returns-17
-unfolding carried
-returns-17 c = rw (c .enum-told15 .given .1) (put-nil _ _)
-
-returns-18 : tie.Need-returns-18
-unfolding carried
-returns-18 c = rw (c .enum-told16 .given .1) (put-nil _ _)
-
-returns-19 : tie.Need-returns-19
-unfolding carried
-returns-19 c = rw (c .enum-told17 .given .1) (put-nil _ _)
-
-returns-20 : tie.Need-returns-20
-unfolding carried
-returns-20 c = rw (c .enum-told18 .given .1) (put-nil _ _)
-
-returns-21 : tie.Need-returns-21
-unfolding carried
-returns-21 c = rw (c .enum-told19 .given .1) (put-nil _ _)
-
-returns-22 : tie.Need-returns-22
-unfolding carried
-returns-22 c = rw (c .enum-told20 .given .1) (put-nil _ _)
-
-returns-23 : tie.Need-returns-23
-unfolding carried
-returns-23 c = rw (c .enum-told21 .given .1) (put-nil _ _)
+returns-3 c = rw (nothing _ (c .match .keys3)) (put-nil _ _)
 
 pub put-carried-spec : {M : Type 1} → statement M
 put-carried-spec =
@@ -186,49 +80,8 @@ put-carried-spec =
     put-read-failed-requires
     enum-known-refusal-2
     put-last-requires
-    enum-told
-    enum-told-2
-    enum-told-3
-    enum-told-4
-    enum-told-5
-    enum-told-6
-    enum-told-7
-    enum-told-8
-    enum-told-9
-    enum-told-10
-    enum-told-11
-    enum-told-12
-    enum-told-13
-    enum-told-14
-    enum-told-15
-    enum-told-16
-    enum-told-17
-    enum-told-18
-    enum-told-19
-    enum-told-20
-    enum-told-21
     same-length
     returns
     same-length-2
     returns-2
-    returns-3
-    returns-4
-    returns-5
-    returns-6
-    returns-7
-    returns-8
-    returns-9
-    returns-10
-    returns-11
-    returns-12
-    returns-13
-    returns-14
-    returns-15
-    returns-16
-    returns-17
-    returns-18
-    returns-19
-    returns-20
-    returns-21
-    returns-22
-    returns-23)
+    returns-3)

@@ -130,7 +130,7 @@ hear-read-spec =
     read-stored-requires
     put-edit-requires
     enum-told
+    returns-4
     enum-told-2
     read-kept-requires-4
-    returns-4
     returns-5)

@@ -56,7 +56,7 @@ start-spec =
     sight-of-requires
     begin-at-requires
     moved-by-requires
+    returns
     enum-known-refusal
     refused-requires
-    returns
     returns-2)

@@ -68,7 +68,7 @@ step-spec =
     sight-of-requires
     advance-at-requires
     moved-by-requires
+    returns
     enum-known-refusal
     refused-requires
-    returns
     returns-2)

@@ -84,7 +84,7 @@ read-heard-spec =
     put-requires
     enum-told
     heard-with-requires
+    returns-2
     enum-told-2
     heard-with-requires-2
-    returns-2
     returns-3)

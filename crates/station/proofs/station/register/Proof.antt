@@ -38,7 +38,7 @@ register-spec =
     registration-requires
     enum-known-model
     admitted-requires
+    returns
     enum-known-refusal
     tell-requires
-    returns
     returns-2)

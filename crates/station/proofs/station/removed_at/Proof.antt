@@ -47,7 +47,7 @@ removed-at-spec =
     free-motor-requires
     with-motor-requires
     tell-requires
+    returns
     enum-known-said
     tell-requires-2
-    returns
     returns-2)

@@ -38,10 +38,10 @@ advanced-spec =
     (tie.spec
     enum-told
     ended-requires
+    returns
     enum-known-phase
     looked-pause-requires
+    returns-2
     enum-known-phase-2
     looked-requires
-    returns
-    returns-2
     returns-3)

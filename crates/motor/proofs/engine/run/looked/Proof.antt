@@ -36,10 +36,10 @@ looked-spec =
     (tie.spec
     enum-known-wait
     looked-ack-requires
+    returns
     enum-known-wait-2
     looked-value-requires
+    returns-2
     enum-known-wait-3
     looked-ping-requires
-    returns
-    returns-2
     returns-3)

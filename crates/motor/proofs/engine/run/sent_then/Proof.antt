@@ -50,12 +50,12 @@ sent-then-spec =
     after-node-requires
     enum-known-outcome
     ended-with-requires
+    returns
     enum-known-time
     cast-sent-on
     add-sent-on
     sent-on-requires
+    returns-2
     enum-told
     sent-on-requires-2
-    returns
-    returns-2
     returns-3)

@@ -31,7 +31,7 @@ written-spec =
     encode-parameter-value-requires
     enum-known-raw
     write-raw-requires
+    returns
     enum-known-refusal
     ended-requires
-    returns
     returns-2)

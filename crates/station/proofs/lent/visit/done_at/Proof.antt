@@ -66,20 +66,20 @@ done-at-spec =
     (tie.spec
     enum-known-ask
     entered-at-requires
+    returns
     enum-known-ask-2
     start-requires
     answered-at-requires
+    returns-2
     enum-known-ask-3
     step-requires
     answered-at-requires-2
+    returns-3
     enum-known-ask-4
     process-feedback-frame-requires
     heard-at-requires
+    returns-4
     enum-known-ask-5
     removal-requires
     removed-at-requires
-    returns
-    returns-2
-    returns-3
-    returns-4
     returns-5)

@@ -38,8 +38,8 @@ entered-at-spec =
     new-requires
     told-requires
     leave-requires
+    returns
     enum-told
     told-requires-2
     leave-requires-2
-    returns
     returns-2)

@@ -41,8 +41,8 @@ kept-at-spec =
     time-of-requires
     hear-state-requires
     kept-heard-requires
+    returns
     enum-known-said
     refused-requires
     keep-requires
-    returns
     returns-2)

@@ -38,8 +38,8 @@ removed-at-spec =
     free-motor-requires
     told-requires
     leave-requires
+    returns
     enum-known-said
     told-requires-2
     leave-requires-2
-    returns
     returns-2)

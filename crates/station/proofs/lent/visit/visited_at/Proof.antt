@@ -33,8 +33,8 @@ visited-at-spec =
     (tie.spec
     enum-told
     done-at-requires
+    returns
     enum-known-said
     refused-requires
     leave-requires
-    returns
     returns-2)
