@@ -129,6 +129,12 @@ class OnTexts(unittest.TestCase):
         with self.assertRaises(BadEdit):
             chosen_edits(Repository(ROOT), ["no_such_edit"])
 
+    def test_documents_name_every_edit(self) -> None:
+        said = (ROOT / "docs/PROOFS.md").read_text(encoding="utf-8")
+        repository = Repository(ROOT)
+        unsaid = [edit.label for crate in repository.needs for edit in repository.edits(crate) if edit.name not in said]
+        self.assertEqual(unsaid, [])
+
     def test_first_error_is_no_consequence(self) -> None:
         said = (
             "p/A.antt:1:2: error: `a-spec`: `close` was not admitted (it has holes), so this cannot be checked\n"
