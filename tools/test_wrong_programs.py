@@ -20,11 +20,12 @@ from wrong_programs.from_nothing import from_nothing  # noqa: E402
 from wrong_programs.mutants import mutants_in, mutants_of  # noqa: E402
 from wrong_programs.repository import BadEdit, Edit, Repository, changes_of  # noqa: E402
 from wrong_programs.source import open_to_change  # noqa: E402
-from wrong_programs.verdict import FACT, FIT, first_error, shown_by  # noqa: E402
+from wrong_programs.verdict import ELSEWHERE, FACT, FIT, REFUSED, first_error, shown_by, verdict_of  # noqa: E402
 
 ROOT = Path(__file__).resolve().parents[1]
 
-SMALL = """ghost use mathlib.Core.Path.{_≡_};
+SMALL = """mod more;
+ghost use mathlib.Core.Path.{_≡_};
 
 // Seven, by way of nought.
 pub fn seven() -> u8
@@ -36,12 +37,23 @@ pub fn seven() -> u8
 }
 """
 
+MORE = """ghost use mathlib.Core.Path.{_≡_};
+
+pub(crate) fn same(n: u8) -> u8
+    ensures { λ r. ⌜ r ≡ n ⌝ }
+{
+    n
+}
+"""
+
+AT = "# refused at: src/lib.rt fn seven\nfile: src/lib.rt\n"
 EDITS = {
-    "must-fail/eight": "# another number\nfile: src/lib.rt\nold:     n = 7;\nnew:     n = 8;\n",
-    "wrong-programs/equal": "file: src/lib.rt\nold: let mut n: u8 = 0;\nnew: let mut n: u8 = 1;\n",
-    "wrong-programs/uncompiled": "file: src/lib.rt\nold:     n = 7;\nnew:     n = seven;\n",
-    "wrong-programs/elsewhere": "file: src/lib.rt\nold: m = 7;\nnew: m = 8;\n",
-    "wrong-programs/twice": "file: src/lib.rt\nold: u8\nnew: u16\n",
+    "must-fail/eight": f"# another number\n{AT}old:     n = 7;\nnew:     n = 8;\n",
+    "wrong-programs/equal": f"{AT}old: let mut n: u8 = 0;\nnew: let mut n: u8 = 1;\n",
+    "wrong-programs/uncompiled": f"{AT}old:     n = 7;\nnew:     n = seven;\n",
+    "wrong-programs/unfound": f"{AT}old: m = 7;\nnew: m = 8;\n",
+    "wrong-programs/twice": f"{AT}old: u8\nnew: u16\n",
+    "wrong-programs/elsewhere": "# refused at: src/more.rt fn same\nfile: src/lib.rt\nold:     n = 7;\nnew:     n = 9;\n",
 }
 
 
@@ -50,6 +62,7 @@ def small(folder: Path) -> Repository:
     (folder / "crates/small/src").mkdir(parents=True)
     (folder / "crates.txt").write_text("small: # one function\n")
     (folder / "crates/small/src/lib.rt").write_text(SMALL)
+    (folder / "crates/small/src/more.rt").write_text(MORE)
     for name, text in EDITS.items():
         path = folder / "crates/small" / f"{name}.edit"
         path.parent.mkdir(exist_ok=True)
@@ -73,14 +86,15 @@ class OnAProver(unittest.TestCase):
         with printed() as out:
             tally = try_edits(self.repository, chosen_edits(self.repository, []), 2)
         self.assertEqual((tally.refused, tally.facts), (1, 1))
-        self.assertEqual(sorted(tally.failed), [f"small/{name}" for name in ("elsewhere", "equal", "twice", "uncompiled")])
-        self.assertEqual(tally.last_line(), "wrong-programs: 5 edits, 1 refused, 1 of them by a fact, 4 failed")
+        self.assertEqual(sorted(tally.failed), [f"small/{name}" for name in ("elsewhere", "equal", "twice", "uncompiled", "unfound")])
+        self.assertEqual(tally.last_line(), "wrong-programs: 6 edits, 1 refused, 1 of them by a fact, 5 failed")
         lines = {line.split(":")[0]: line for line in out.getvalue().splitlines()}
         self.assertIn("as it stands is proved", lines["wrong-programs"])
         self.assertRegex(lines["small/eight"], r"refused \(\d+\.\d s\) fact: .*src/lib\.rt")
         self.assertIn("PROVED", lines["small/equal"])
         self.assertIn("DOESN'T COMPILE", lines["small/uncompiled"])
-        self.assertIn("it doesn't apply", lines["small/elsewhere"])
+        self.assertIn("it doesn't apply", lines["small/unfound"])
+        self.assertRegex(lines["small/elsewhere"], r"REFUSED ELSEWHERE \(\d+\.\d s\) src/lib\.rt")
 
     def test_edits_leave_no_trace(self) -> None:
         before = (self.repository.crate("small") / "src/lib.rt").read_text()
@@ -92,7 +106,7 @@ class OnAProver(unittest.TestCase):
     def test_from_nothing_agrees(self) -> None:
         with printed():
             tally = from_nothing(self.repository, chosen_edits(self.repository, []), 2)
-        self.assertEqual(tally.refused, 1)
+        self.assertEqual(tally.refused, 2)
         self.assertEqual(len(tally.failed), 4)
 
     def test_an_unproved_crate_is_not_tried(self) -> None:
@@ -125,6 +139,18 @@ class OnTexts(unittest.TestCase):
             with self.assertRaises(BadEdit):
                 Edit("c", "e", ()).apply(Path(scratch))
 
+    def test_edits_say_where_they_are_refused(self) -> None:
+        with tempfile.TemporaryDirectory() as scratch:
+            repository = small(Path(scratch))
+            file = repository.crate("small") / "must-fail/eight.edit"
+            text = file.read_text()
+            self.assertEqual(repository.edit("small", file).refused_at, "src/lib.rt fn seven")
+            line = "# refused at: src/lib.rt fn seven\n"
+            for wrong in ("", line + line, "# refused at: src/none.rt\n", "# refused at: must-fail/eight.edit\n", "# refused at: src/lib.rt seven\n"):
+                file.write_text(text.replace(line, wrong))
+                with self.assertRaises(BadEdit):
+                    repository.edits("small")
+
     def test_names_that_nobody_has(self) -> None:
         with self.assertRaises(BadEdit):
             chosen_edits(Repository(ROOT), ["no_such_edit"])
@@ -141,10 +167,14 @@ class OnTexts(unittest.TestCase):
             "note: src/b.rt:3:1: it is not proved that what the function ensures holds when it returns (`returns`)\n"
             "p/C.antt:4:5: error: `c`: `omega`: the goal does not follow from what it read.\n  at n = 1\nlogic=not-proved\n"
         )
-        place, message = first_error(said)
+        crate = Path("/c")
+        place, message = first_error(said, crate)
         self.assertEqual((place, shown_by(message)[0]), ("src/b.rt:3:1", FACT))
-        self.assertEqual(first_error(said.split("\n", 2)[2]), ("p/C.antt:4:5", "`c`: `omega`: the goal does not follow from what it read.\nat n = 1"))
-        self.assertEqual(shown_by(first_error(said.split("\n")[0])[1])[0], FIT)
+        self.assertEqual(first_error(said.split("\n", 2)[2], crate), ("p/C.antt:4:5", "`c`: `omega`: the goal does not follow from what it read.\nat n = 1"))
+        self.assertEqual(shown_by(first_error(said.split("\n")[0], crate)[1])[0], FIT)
+        at_c = verdict_of(1, said, 0.0, crate, "p/C.antt")
+        self.assertEqual((at_c.ending, at_c.place, at_c.shows), (REFUSED, "p/C.antt:4:5", FACT))
+        self.assertEqual(verdict_of(1, said, 0.0, crate, "p/A.antt").ending, ELSEWHERE)
         self.assertEqual(shown_by("`rw`: no occurrence of the path's left endpoint in the goal")[0], FIT)
 
     def test_mutants_change_code_alone(self) -> None:

@@ -137,4 +137,4 @@ class Bench:
         edit.apply(self.crate)
         began = time.monotonic()
         status, said = rt(self.root, "dev", self.warm.crate)
-        return verdict_of(status, said, time.monotonic() - began, self.crate)
+        return verdict_of(status, said, time.monotonic() - began, self.crate, edit.refused_at)

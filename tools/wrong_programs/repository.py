@@ -2,12 +2,15 @@
 
 from __future__ import annotations
 
+import re
 from dataclasses import dataclass
 from pathlib import Path
 
 PARTS = ("src", "specs", "proofs")
 # where edits stand: those that rt ci tries, and those that only this tool does
 FOLDERS = ("must-fail", "wrong-programs")
+# the comment line that names the proof that refuses the edit: its file, or the function, where this has no proof file of its own
+REFUSED_AT = re.compile(r"^# refused at: (\S+(?: fn \w+)?)$", re.M)
 
 
 class BadEdit(Exception):
@@ -25,11 +28,12 @@ class Change:
 
 @dataclass(frozen=True)
 class Edit:
-    """A wrong program: changes of one crate, in rt's format."""
+    """A wrong program: changes of one crate, in rt's format, and the proof that must refuse it, which a mutant doesn't know."""
 
     crate: str
     name: str
     changes: tuple[Change, ...]
+    refused_at: str | None = None
 
     @property
     def label(self) -> str:
@@ -94,7 +98,12 @@ class Repository:
         twice = sorted({n for n in names if names.count(n) > 1})
         if twice:
             raise BadEdit(f"{name} has two edits of the name {twice[0]}")
-        return [
-            Edit(name, file.stem, changes_of(file.read_text(encoding="utf-8")))
-            for file in sorted(files, key=lambda file: file.stem)
-        ]
+        return [self.edit(name, file) for file in sorted(files, key=lambda file: file.stem)]
+
+    def edit(self, name: str, file: Path) -> Edit:
+        """An edit of a crate, as its file has it."""
+        text = file.read_text(encoding="utf-8")
+        said = REFUSED_AT.findall(text)
+        if len(said) != 1 or said[0].split("/")[0] not in PARTS or not (self.crate(name) / said[0].split()[0]).is_file():
+            raise BadEdit(f"{name}/{file.stem} doesn't name the one proof that must refuse it, as in '# refused at: FILE'")
+        return Edit(name, file.stem, changes_of(text), said[0])

@@ -10,6 +10,7 @@ REFUSED = "refused"
 PROVED = "PROVED"
 UNCOMPILED = "DOESN'T COMPILE"
 UNTOLD = "NO VERDICT"
+ELSEWHERE = "REFUSED ELSEWHERE"
 
 FACT = "fact"
 FIT = "fit"
@@ -35,7 +36,7 @@ WORDS = (
 
 @dataclass(frozen=True)
 class Verdict:
-    """One try: how it ended, how long it took, the first error, and what that error shows."""
+    """One try: how it ended, how long it took, the error that counts, and what that error shows."""
 
     ending: str
     seconds: float
@@ -46,8 +47,9 @@ class Verdict:
     said: str
 
 
-def verdict_of(status: int, said: str, seconds: float, crate: Path) -> Verdict:
-    """Refused is what the prover says isn't proved; an edit that doesn't reach the prover says nothing."""
+def verdict_of(status: int, said: str, seconds: float, crate: Path, refused_at: str | None = None) -> Verdict:
+    """Refused is what the prover says isn't proved, at the proof that is named; an edit that doesn't reach the prover says nothing.
+    What counts is the first error there, or, where no proof is named, the first of all."""
     if status == 1 and re.search(r"^logic=not-proved", said, re.M):
         ending = REFUSED
     elif status == 0 and re.search(r"^logic=proved", said, re.M):
@@ -56,33 +58,51 @@ def verdict_of(status: int, said: str, seconds: float, crate: Path) -> Verdict:
         ending = UNTOLD
     else:
         ending = UNCOMPILED
-    place, message = first_error(said)
+    place, message = first_error(said, crate)
+    if ending == REFUSED and refused_at is not None:
+        there = [error for error in own_errors(said, crate) if is_at(error[0], refused_at, crate)]
+        if there:
+            place, message = there[0]
+        else:
+            ending = ELSEWHERE
     shows, reason = shown_by(message)
-    return Verdict(ending, seconds, place.removeprefix(f"{crate}/"), message, shows, reason, said)
+    return Verdict(ending, seconds, place, message, shows, reason, said)
 
 
-def errors(said: str) -> list[tuple[str, str]]:
-    """Each error: where it stands, and its text with the lines that explain it."""
+def errors(said: str, crate: Path) -> list[tuple[str, str]]:
+    """Each error: where it stands in the crate, and its text with the lines that explain it."""
     found: list[tuple[str, list[str]]] = []
     inside = False
     for line in said.split("\n"):
         hit = ERROR.match(line) or NEED.match(line)
         if hit:
-            found.append((hit["place"], [hit["text"]]))
+            found.append((hit["place"].removeprefix(f"{crate}/"), [hit["text"]]))
         elif inside and line.startswith(" "):
             found[-1][1].append(line.strip())
         inside = bool(found) and (hit is not None or (inside and line.startswith(" ")))
     return [(place, "\n".join(lines)) for place, lines in found]
 
 
-def first_error(said: str) -> tuple[str, str]:
+def own_errors(said: str, crate: Path) -> list[tuple[str, str]]:
+    """Those that aren't another's consequence."""
+    return [error for error in errors(said, crate) if CONSEQUENCE not in error[1]]
+
+
+def is_at(place: str, proof: str, crate: Path) -> bool:
+    """Whether an error stands in a file, or at a function of it."""
+    file, line, _ = place.rsplit(":", 2)
+    named, _, function = proof.partition(" fn ")
+    if file != named or not function:
+        return file == named
+    lines = (crate / file).read_text(encoding="utf-8").split("\n")
+    return re.search(rf"\bfn {function}\b", lines[int(line) - 1]) is not None
+
+
+def first_error(said: str, crate: Path) -> tuple[str, str]:
     """The first error that isn't another's consequence; of a program that doesn't compile, the compiler's."""
-    every = errors(said)
-    for place, message in every:
-        if CONSEQUENCE not in message:
-            return place, message
-    if every:
-        return every[0]
+    found = own_errors(said, crate) or errors(said, crate)
+    if found:
+        return found[0]
     front = FRONT.search(said)
     return "", front[0] if front else said.strip().split("\n")[0]
 
