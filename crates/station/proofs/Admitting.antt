@@ -19,11 +19,10 @@ use Rattle.motor.specs.Motors.{newMotor}
 use Rattle.motor.specs.Numbers.{firstOf}
 use Rattle.motor.proofs.ReadingsHeld.{empty-holds}
 use Rattle.station.specs.declared.station.Station.{Station}
-use Rattle.station.specs.Calls.{answered}
 use Rattle.station.specs.Station.{Place, held, full, isSome}
 use Rattle.station.specs.Station.{enter, admit}
 use Rattle.station.specs.Stations.{indexOf, atPlace, enteredIn, admittedIn, registerBy}
-use Rattle.station.specs.Stations.{Shows, ToldAs}
+use Rattle.station.specs.Stations.{Shows, LeavesAs}
 use Rattle.station.proofs.Index.{full-at, room-at, add-as}
 use Rattle.station.proofs.Steps.{refused-passed}
 use Rattle.station.proofs.Standing.{Where, absent, present, where-is}
@@ -64,13 +63,13 @@ nonzero m host model wait time e q = refused-passed refusal.MotorIdOutOfRange (r
 
 module _ (st : Station) (s : List Place) (x : Shows st s) (m host : ℕ) (model : Model) (wait time : ℕ) (z : m ≡ 0 → ⊥) where
   abbrev Admits : Checked → Type 0
-  Admits k = ToldAs (admittedIn st m host model wait time) (admit k s m host (named.Known model) wait time)
+  Admits k = LeavesAs (admittedIn st m host model wait time) (admit k s m host (named.Known model) wait time)
 
   -- 4, or the first free place
   entered : held s m ≡ none → (b : Bool) → ltb (indexOf (st .motors) 0) 8 ≡ b
-      → ToldAs (enteredIn st (newMotor m host model wait time))
+      → LeavesAs (enteredIn st (newMotor m host model wait time))
       (admit (firstOf ((false, refusal.IdRegistered) ∷ (full s, refusal.StationFull) ∷ [])) s m host (named.Known model) wait time)
-  unfolding enteredIn admit enter answered
+  unfolding enteredIn admit enter
   entered q true p =
       let l : indexOf (st .motors) 0 < length (st .motors) = rw (x .eight) (ltb→lt (indexOf (st .motors) 0) 8 (rw p tt)) in
       rw (p, room-at (st .motors) s (x .places) l)
@@ -87,7 +86,7 @@ module _ (st : Station) (s : List Place) (x : Shows st s) (m host : ℕ) (model 
       rw (p, full-at (st .motors) s (x .places) (rw (x .eight) (nltb→le (indexOf (st .motors) 0) 8 (rw p tt)))) (record { answer = refl; station = x })
 
   admitted-means : Admits (firstOf ((isSome (held s m), refusal.IdRegistered) ∷ (full s, refusal.StationFull) ∷ []))
-  unfolding admittedIn atPlace isSome admit answered
+  unfolding admittedIn atPlace isSome admit
   admitted-means = go (where-is st s x m)
     where
       go : Where st s x m → Admits (firstOf ((isSome (held s m), refusal.IdRegistered) ∷ (full s, refusal.StationFull) ∷ []))
@@ -96,9 +95,9 @@ module _ (st : Station) (s : List Place) (x : Shows st s) (m host : ℕ) (model 
 
 pub by-tests : (st : Station) (s : List Place) → Shows st s → (m host : ℕ) (model : ModelNamed) (wait time : ℕ) (k : Checked)
     → firstOf (registerNumbers m host model wait time) ≡ k
-    → ToldAs (registerBy (registeredBy k model) st m host wait time)
+    → LeavesAs (registerBy (registeredBy k model) st m host wait time)
     (admit (firstOf (registerNumbers m host model wait time ++ ((isSome (held s m), refusal.IdRegistered) ∷ (full s, refusal.StationFull) ∷ []))) s m host model wait time)
-unfolding admit answered
+unfolding admit
 by-tests st s x m host (named.Known model) wait time checked.Passed e =
     rw (passed-on (registerNumbers m host (named.Known model) wait time) (isSome (held s m)) (full s) refusal.IdRegistered refusal.StationFull e)
     (admitted-means st s x m host model wait time (nonzero m host (named.Known model) wait time e))

@@ -20,10 +20,9 @@ use Rattle.motor.specs.Readings.{insert, room}
 use Rattle.motor.specs.Receive.{accepts, counted, readId, readStored, frameSaid, stateAfter, readingsAfter}
 use Rattle.motor.proofs.Clock.{step-failed}
 use Rattle.motor.proofs.Stays.{movesBy}
-use Rattle.station.specs.Calls.{step, frame}
-use Rattle.station.specs.Calls.{Answer, no, says, answered}
-use Rattle.station.specs.Station.{Place, held, Distinct, movesTo, hearsTo, lone, route, source, stationCall}
-use Rattle.station.specs.History.{mine}
+use Rattle.station.specs.Calls.{step, frame, Reply, no, says, answered}
+use Rattle.station.specs.Station.{Place, held, Distinct, movesTo, hearsTo, loneBy, source, toSource, stationBy, stationCall}
+use Rattle.station.specs.History.{mineBy}
 use Rattle.station.specs.Demands.{number, raised, failed}
 use Rattle.station.proofs.NumberLists.{of-each}
 use Rattle.station.proofs.Places.{own-id}
@@ -33,7 +32,7 @@ use Rattle.station.proofs.Steps.{own-call}
 
 lone-counted : (h : Lone) (f : CanFrame) (now : ℕ) → among (number ((hearsTo (hears h f now)) .0)) (14 ∷ 15 ∷ []) ≡ true
     → (hearsTo (hears h f now)) .1 ≡ some (raised h now)
-unfolding hearsTo hears stateAfter readingsAfter raised number answered among
+unfolding hearsTo hears stateAfter readingsAfter raised among
 lone-counted h f now = go (frameSaid (h .state) f now (not (room (readId f) (h .readings))))
   where
     new : Checked → Lone
@@ -48,16 +47,15 @@ lone-counted h f now = go (frameSaid (h .state) f now (not (room (readId f) (h .
 pub frame-counted : (s : List Place) (f : CanFrame) (now : ℕ) (h : Lone) → Distinct s → held s (source f) ≡ some h
     → among (number ((stationCall s (frame f now)) .0)) (14 ∷ 15 ∷ []) ≡ true
     → held ((stationCall s (frame f now)) .1) (source f) ≡ some (raised h now)
-unfolding stationCall lone mine number among
+unfolding stationBy loneBy mineBy among
 frame-counted s f now h d q e = go (accepts (source f) f) refl
   where
     go : (b : Bool) → accepts (source f) f ≡ b → held ((stationCall s (frame f now)) .1) (source f) ≡ some (raised h now)
     go true p =
         let o = own-call s (source f) h (frame f now) d q p in
-        o .1 ∙ lone-counted h f now (subst (λ (a : Answer). among (number a) (14 ∷ 15 ∷ []) ≡ true) (o .0) e)
+        o .1 ∙ lone-counted h f now (subst (λ (a : Reply). among (number a) (14 ∷ 15 ∷ []) ≡ true) (o .0) e)
     go false p =
-        let there = route s (source f) (held s (source f)) refusal.FrameNotAccepted (frame f now) in
-        absurd (true≢false (sym e ∙ ap (λ (b : Bool). among (number ((cond b there (no refusal.FrameNotAccepted, s)) .0)) (14 ∷ 15 ∷ [])) p))
+        absurd (true≢false (sym e ∙ ap (λ (b : Bool). among (number ((cond b (toSource s f now) (no refusal.FrameNotAccepted, s)) .0)) (14 ∷ 15 ∷ [])) p))
 
 -- ---- 16, 17, 18 and 20
 
@@ -68,7 +66,7 @@ moving r e = of-each (λ n. among n (14 ∷ 15 ∷ 16 ∷ 17 ∷ 18 ∷ 20 ∷ [
 
 lone-ended : (h : Lone) (now : ℕ) → among (number ((movesTo (loneStep h now)) .0)) (16 ∷ 17 ∷ 18 ∷ 20 ∷ []) ≡ true
     → (movesTo (loneStep h now)) .1 ≡ some (failed h now)
-unfolding movesTo number failed among
+unfolding movesTo failed among
 lone-ended h now e = ap (λ (k : Lone). some k) (go (loneStep h now .said) refl e)
   where
     go : (w : Said) → loneStep h now .said ≡ w → among (number (says w (loneStep h now .frame) (loneStep h now .result))) (16 ∷ 17 ∷ 18 ∷ 20 ∷ []) ≡ true
@@ -82,7 +80,7 @@ lone-ended h now e = ap (λ (k : Lone). some k) (go (loneStep h now .said) refl 
 pub step-ended : (s : List Place) (m now : ℕ) (h : Lone) → Distinct s → held s m ≡ some h
     → among (number ((stationCall s (step m now)) .0)) (16 ∷ 17 ∷ 18 ∷ 20 ∷ []) ≡ true
     → held ((stationCall s (step m now)) .1) m ≡ some (failed h now)
-unfolding lone mine
+unfolding loneBy mineBy
 step-ended s m now h d q e =
     let o = own-call s m h (step m now) d q (own-id m) in
-    o .1 ∙ lone-ended h now (subst (λ (a : Answer). among (number a) (16 ∷ 17 ∷ 18 ∷ 20 ∷ []) ≡ true) (o .0) e)
+    o .1 ∙ lone-ended h now (subst (λ (a : Reply). among (number a) (16 ∷ 17 ∷ 18 ∷ 20 ∷ []) ≡ true) (o .0) e)

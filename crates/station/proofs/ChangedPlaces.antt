@@ -27,14 +27,13 @@ use Rattle.motor.specs.Receive.{accepts, late, counted, readId, readStored, fra
 use Rattle.motor.proofs.Ends.{Closed, advance-ends}
 use Rattle.motor.proofs.Stays.{Stays, step-stays, running}
 use Rattle.station.specs.declared.station.Station.{Station}
-use Rattle.station.specs.declared.station.Moved.{Moved}
-use Rattle.station.specs.declared.station.Told.{Told}
-use Rattle.station.specs.Calls.{ok, says, answered}
+use Rattle.station.specs.declared.station.After.{After}
+use Rattle.station.specs.Calls.{step, frame, remove, gives, ok, says, answered}
 use Rattle.station.specs.Station.{source}
-use Rattle.station.specs.Stations.{freeMotor, takenPlace, motorAt, withMotor, atPlace, told, movedAt, unmoved, heardAt, removedAt, stepIn, frameIn, removeIn}
+use Rattle.station.specs.Stations.{freeMotor, takenPlace, motorAt, withMotor, atPlace, tells, movedAt, unmoved, heardAt, removedAt, stepIn, frameIn, removeIn}
 use Rattle.station.specs.Demands.{number}
-use Rattle.station.proofs.Contracts.{stepping, receiving, removing, Out, answerIn, next, Gives, given, gives-given}
-use Rattle.station.proofs.Elsewhere.{either, at-place, placeFor}
+use Rattle.station.proofs.Contracts.{replyIn, next, givenBy, given}
+use Rattle.station.proofs.Elsewhere.{either, at-place, placeBy, placeFor}
 use Rattle.station.proofs.Changed.{moving}
 use Rattle.station.proofs.Steps.{no-ok}
 
@@ -50,7 +49,7 @@ failedAt st i now =
 
 motor-counted : (y : Motor) (f : CanFrame) (now : ℕ) → among (number (answered (heardOf y f now .said))) (14 ∷ 15 ∷ []) ≡ true
     → _≡_ {A = Motor} (heardOf y f now .motor) (record { state = counted (y .state) now; readings = y .readings })
-unfolding heardOf stateAfter readingsAfter number answered among
+unfolding heardOf stateAfter readingsAfter among
 motor-counted y f now =
     let put = putOf (y .readings) (readId f) (readStored f) in
     go (frameSaid (y .state) f now (isFull (put .said))) (put .readings)
@@ -63,33 +62,30 @@ motor-counted y f now =
         ap {B = Motor} (λ (a : State). record { state = a; readings = y .readings }) (cond-yes (counted (y .state) now) (y .state) e)
 
 module _ (st : Station) (f : CanFrame) (now : ℕ) where
-  abbrev Raised : Told → Type 0
-  Raised r = among (number (answered (r .said))) (14 ∷ 15 ∷ []) ≡ true → r .station ≡ raisedAt st (takenPlace (st .motors) (source f)) now
+  abbrev Raised : After → Type 0
+  Raised r = among (number (gives (r .replied))) (14 ∷ 15 ∷ []) ≡ true → r .station ≡ raisedAt st (takenPlace (st .motors) (source f)) now
 
   frame-raised : Raised (frameIn st f now)
-  unfolding frameIn number answered among
+  unfolding frameIn among
   frame-raised =
-      let other = told st (checked.Refused refusal.FrameNotAccepted) in
-      let found : ℕ → Told = λ i. heardAt st i (heardOf (motorAt st i) f now) in
+      let other = tells st (checked.Refused refusal.FrameNotAccepted) in
+      let found : ℕ → After = λ i. heardAt st i (heardOf (motorAt st i) f now) in
       either Raised (accepts (source f) f) (atPlace st (source f) found other) other
       (at-place Raised st (source f) found other
       (λ i p e. ap (λ (y : Motor). withMotor st i y) (motor-counted (motorAt st i) f now e) ∙ ap (λ (j : ℕ). raisedAt st j now) p)
       (λ e. absurd (true≢false (sym e))))
       (λ e. absurd (true≢false (sym e)))
 
-  pub place-counted : (o : Out) → Gives st (receiving f now) o → among (number (answerIn o)) (14 ∷ 15 ∷ []) ≡ true
-      → next st o ≡ raisedAt st (placeFor st (receiving f now)) now
-  unfolding given answerIn next placeFor
-  place-counted o g =
-      subst (λ (x : Out). among (number (answerIn x)) (14 ∷ 15 ∷ []) ≡ true → next st x ≡ raisedAt st (takenPlace (st .motors) (source f)) now)
-      (gives-given st (receiving f now) o g)
-      frame-raised
+  pub place-counted : among (number (replyIn (given st (frame f now)))) (14 ∷ 15 ∷ []) ≡ true
+      → next st (given st (frame f now)) ≡ raisedAt st (placeFor st (frame f now)) now
+  unfolding givenBy replyIn next placeBy
+  place-counted = frame-raised
 
 -- ---- 16, 17, 18 and 20
 
 motor-ended : (y : Motor) (now : ℕ) → among (number (says (stepOf y now .said) (stepOf y now .frame) (stepOf y now .result))) (16 ∷ 17 ∷ 18 ∷ 20 ∷ []) ≡ true
     → _≡_ {A = Motor} (stepOf y now .motor) (record { state = movedBy (y .state) now noCommand idle effect.Nothing; readings = y .readings })
-unfolding number among
+unfolding among
 motor-ended y now = go (stepSaid (y .state .clock) p now) refl (step-stays (y .state .clock) p now)
   where
     p : Phase
@@ -117,43 +113,38 @@ motor-ended y now = go (stepSaid (y .state .clock) p now) refl (step-stays (y .s
     go (checked.Refused r) q s e = absurd (true≢false (sym (moving r e) ∙ s))
 
 module _ (st : Station) (m now : ℕ) where
-  abbrev Failed : Moved → Type 0
-  Failed r = among (number (says (r .said) (r .frame) (r .result))) (16 ∷ 17 ∷ 18 ∷ 20 ∷ []) ≡ true → r .station ≡ failedAt st (takenPlace (st .motors) m) now
+  abbrev Failed : After → Type 0
+  Failed r = among (number (gives (r .replied))) (16 ∷ 17 ∷ 18 ∷ 20 ∷ []) ≡ true → r .station ≡ failedAt st (takenPlace (st .motors) m) now
 
   step-failed : Failed (stepIn st m now)
-  unfolding stepIn number among
+  unfolding stepIn among
   step-failed =
       at-place Failed st m (λ i. movedAt st i (stepOf (motorAt st i) now)) (unmoved st)
       (λ i p e. ap (λ (y : Motor). withMotor st i y) (motor-ended (motorAt st i) now e) ∙ ap (λ (j : ℕ). failedAt st j now) p)
       (λ e. absurd (true≢false (sym e)))
 
-  pub place-ended : (o : Out) → Gives st (stepping m now) o → among (number (answerIn o)) (16 ∷ 17 ∷ 18 ∷ 20 ∷ []) ≡ true
-      → next st o ≡ failedAt st (placeFor st (stepping m now)) now
-  unfolding given answerIn next placeFor
-  place-ended o g =
-      subst (λ (x : Out). among (number (answerIn x)) (16 ∷ 17 ∷ 18 ∷ 20 ∷ []) ≡ true → next st x ≡ failedAt st (takenPlace (st .motors) m) now)
-      (gives-given st (stepping m now) o g)
-      step-failed
+  pub place-ended : among (number (replyIn (given st (step m now)))) (16 ∷ 17 ∷ 18 ∷ 20 ∷ []) ≡ true
+      → next st (given st (step m now)) ≡ failedAt st (placeFor st (step m now)) now
+  unfolding givenBy replyIn next placeBy
+  place-ended = step-failed
 
 -- ---- a removal that isn't refused
 
 module _ (st : Station) (m now : ℕ) where
-  abbrev Freed : Told → Type 0
-  Freed r = answered (r .said) ≡ ok → r .station ≡ withMotor st (takenPlace (st .motors) m) freeMotor
+  abbrev Freed : After → Type 0
+  Freed r = gives (r .replied) ≡ ok → r .station ≡ withMotor st (takenPlace (st .motors) m) freeMotor
 
   removed-freed : (k : Checked) (i : ℕ) → i ≡ takenPlace (st .motors) m → Freed (removedAt k st i)
-  unfolding answered
   removed-freed checked.Passed i p e = ap (λ (j : ℕ). withMotor st j freeMotor) p
   removed-freed (checked.Refused r) i p e = no-ok r e
 
   remove-freed : Freed (removeIn st m now)
-  unfolding removeIn answered
+  unfolding removeIn
   remove-freed =
-      at-place Freed st m (λ i. removedAt (removalOf (motorAt st i) now) st i) (told st (checked.Refused refusal.IdNotRegistered))
+      at-place Freed st m (λ i. removedAt (removalOf (motorAt st i) now) st i) (tells st (checked.Refused refusal.IdNotRegistered))
       (λ i p. removed-freed (removalOf (motorAt st i) now) i p)
       (λ e. no-ok refusal.IdNotRegistered e)
 
-  pub place-freed : (o : Out) → Gives st (removing m now) o → answerIn o ≡ ok → next st o ≡ withMotor st (placeFor st (removing m now)) freeMotor
-  unfolding given answerIn next placeFor
-  place-freed o g =
-      subst (λ (x : Out). answerIn x ≡ ok → next st x ≡ withMotor st (takenPlace (st .motors) m) freeMotor) (gives-given st (removing m now) o g) remove-freed
+  pub place-freed : replyIn (given st (remove m now)) ≡ ok → next st (given st (remove m now)) ≡ withMotor st (placeFor st (remove m now)) freeMotor
+  unfolding givenBy replyIn next placeBy
+  place-freed = remove-freed

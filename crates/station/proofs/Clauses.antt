@@ -22,14 +22,13 @@ use Rattle.motor.specs.Calls.{registrationOf}
 use Rattle.motor.specs.Motors.{newMotor, startOf, stepOf, lookOf, removalOf}
 use Rattle.motor.specs.Receive.{accepts, heardOf}
 use Rattle.station.specs.declared.station.Station.{Station}
-use Rattle.station.specs.declared.station.Moved.{Moved}
-use Rattle.station.specs.declared.station.Told.{Told}
+use Rattle.station.specs.declared.station.After.{After}
 use Rattle.station.specs.declared.station.Looked.{Looked}
 use Rattle.station.specs.Calls.{register, start, step, frame, look, remove}
-use Rattle.station.specs.Calls.{Answer}
+use Rattle.station.specs.Calls.{Reply}
 use Rattle.station.specs.Station.{Place, source, stationCall}
-use Rattle.station.specs.Stations.{freeMotor, indexOf, takenPlace, motorAt, withMotor, atPlace, told, movedAt, unmoved, heardAt, removedAt, enteredIn, admittedIn, registerBy, registerIn, startIn, stepIn, frameIn, lookIn, removeIn}
-use Rattle.station.specs.Stations.{Shows, MovedAs, ToldAs, answerOf}
+use Rattle.station.specs.Stations.{freeMotor, indexOf, takenPlace, motorAt, withMotor, atPlace, tells, movedAt, unmoved, heardAt, removedAt, enteredIn, admittedIn, registerBy, registerIn, startIn, stepIn, frameIn, lookIn, removeIn}
+use Rattle.station.specs.Stations.{Shows, LeavesAs, replyOf}
 use Rattle.station.proofs.Meanings.{start-means, step-means, frame-means, look-means, remove-means, register-means}
 
 -- a test of a place, taken or left
@@ -50,43 +49,43 @@ module _ {A : Type 0} (st : Station) (id i : ℕ) (found : ℕ → A) (none : A)
 
 -- ---- the second clause from the first
 
-pub start-clauses : (st : Station) (id : ℕ) (c : Command) (now : ℕ) (r : Moved) → r ≡ startIn st id c now
-    → (r ≡ startIn st id c now) × ((s : List Place) → Shows st s → MovedAs r (stationCall s (start id c now)))
-start-clauses st id c now r e = (e, λ s x. subst (λ (a : Moved). MovedAs a (stationCall s (start id c now))) (sym e) (start-means st s x id c now))
+pub start-clauses : (st : Station) (id : ℕ) (c : Command) (now : ℕ) (r : After) → r ≡ startIn st id c now
+    → (r ≡ startIn st id c now) × ((s : List Place) → Shows st s → LeavesAs r (stationCall s (start id c now)))
+start-clauses st id c now r e = (e, λ s x. subst (λ (a : After). LeavesAs a (stationCall s (start id c now))) (sym e) (start-means st s x id c now))
 
-pub step-clauses : (st : Station) (id now : ℕ) (r : Moved) → r ≡ stepIn st id now
-    → (r ≡ stepIn st id now) × ((s : List Place) → Shows st s → MovedAs r (stationCall s (step id now)))
-step-clauses st id now r e = (e, λ s x. subst (λ (a : Moved). MovedAs a (stationCall s (step id now))) (sym e) (step-means st s x id now))
+pub step-clauses : (st : Station) (id now : ℕ) (r : After) → r ≡ stepIn st id now
+    → (r ≡ stepIn st id now) × ((s : List Place) → Shows st s → LeavesAs r (stationCall s (step id now)))
+step-clauses st id now r e = (e, λ s x. subst (λ (a : After). LeavesAs a (stationCall s (step id now))) (sym e) (step-means st s x id now))
 
-pub frame-clauses : (st : Station) (f : CanFrame) (now : ℕ) (r : Told) → r ≡ frameIn st f now
-    → (r ≡ frameIn st f now) × ((s : List Place) → Shows st s → ToldAs r (stationCall s (frame f now)))
-frame-clauses st f now r e = (e, λ s x. subst (λ (a : Told). ToldAs a (stationCall s (frame f now))) (sym e) (frame-means st s x f now))
+pub frame-clauses : (st : Station) (f : CanFrame) (now : ℕ) (r : After) → r ≡ frameIn st f now
+    → (r ≡ frameIn st f now) × ((s : List Place) → Shows st s → LeavesAs r (stationCall s (frame f now)))
+frame-clauses st f now r e = (e, λ s x. subst (λ (a : After). LeavesAs a (stationCall s (frame f now))) (sym e) (frame-means st s x f now))
 
 pub look-clauses : (st : Station) (id : ℕ) (r : Looked) → r ≡ lookIn st id
-    → (r ≡ lookIn st id) × ((s : List Place) → Shows st s → (answerOf r, s) ≡ stationCall s (look id))
-look-clauses st id r e = (e, λ s x. subst (λ (a : Looked). _≡_ {A = Answer × List Place} (answerOf a, s) (stationCall s (look id))) (sym e) (look-means st s x id))
+    → (r ≡ lookIn st id) × ((s : List Place) → Shows st s → (replyOf r, s) ≡ stationCall s (look id))
+look-clauses st id r e = (e, λ s x. subst (λ (a : Looked). _≡_ {A = Reply × List Place} (replyOf a, s) (stationCall s (look id))) (sym e) (look-means st s x id))
 
-pub remove-clauses : (st : Station) (id now : ℕ) (r : Told) → r ≡ removeIn st id now
-    → (r ≡ removeIn st id now) × ((s : List Place) → Shows st s → ToldAs r (stationCall s (remove id now)))
-remove-clauses st id now r e = (e, λ s x. subst (λ (a : Told). ToldAs a (stationCall s (remove id now))) (sym e) (remove-means st s x id now))
+pub remove-clauses : (st : Station) (id now : ℕ) (r : After) → r ≡ removeIn st id now
+    → (r ≡ removeIn st id now) × ((s : List Place) → Shows st s → LeavesAs r (stationCall s (remove id now)))
+remove-clauses st id now r e = (e, λ s x. subst (λ (a : After). LeavesAs a (stationCall s (remove id now))) (sym e) (remove-means st s x id now))
 
-pub register-clauses : (st : Station) (id host : ℕ) (model : ModelNamed) (wait time : ℕ) (r : Told) → r ≡ registerIn st id host model wait time
-    → (r ≡ registerIn st id host model wait time) × ((s : List Place) → Shows st s → ToldAs r (stationCall s (register id host model wait time)))
+pub register-clauses : (st : Station) (id host : ℕ) (model : ModelNamed) (wait time : ℕ) (r : After) → r ≡ registerIn st id host model wait time
+    → (r ≡ registerIn st id host model wait time) × ((s : List Place) → Shows st s → LeavesAs r (stationCall s (register id host model wait time)))
 register-clauses st id host model wait time r e =
-    (e, λ s x. subst (λ (a : Told). ToldAs a (stationCall s (register id host model wait time))) (sym e) (register-means st s x id host model wait time))
+    (e, λ s x. subst (λ (a : After). LeavesAs a (stationCall s (register id host model wait time))) (sym e) (register-means st s x id host model wait time))
 
 -- ---- the first clause, at the place of a registered motor and where there is none
 
 module _ (st : Station) (id i : ℕ) (e : i ≡ takenPlace (st .motors) id) where
   module _ (l : i < 8) (y : Motor) (at : y ≡ getD (st .motors) i freeMotor) where
-    pub start-found : (c : Command) (now : ℕ) (a : Answered) (r : Moved) → a ≡ startOf y c now → r ≡ movedAt st i a → r ≡ startIn st id c now
+    pub start-found : (c : Command) (now : ℕ) (a : Answered) (r : After) → a ≡ startOf y c now → r ≡ movedAt st i a → r ≡ startIn st id c now
     unfolding startIn
     start-found c now a r p q =
         q
         ∙ ap (λ (b : Answered). movedAt st i b) (p ∙ ap (λ (m : Motor). startOf m c now) at)
         ∙ at-found st id i (λ j. movedAt st j (startOf (motorAt st j) c now)) (unmoved st) e l
 
-    pub step-found : (now : ℕ) (a : Answered) (r : Moved) → a ≡ stepOf y now → r ≡ movedAt st i a → r ≡ stepIn st id now
+    pub step-found : (now : ℕ) (a : Answered) (r : After) → a ≡ stepOf y now → r ≡ movedAt st i a → r ≡ stepIn st id now
     unfolding stepIn
     step-found now a r p q =
         q
@@ -100,19 +99,19 @@ module _ (st : Station) (id i : ℕ) (e : i ≡ takenPlace (st .motors) id) wher
         ∙ at-found {A = Looked} st id i (λ j. record { said = checked.Passed; seen = lookOf (motorAt st j) })
         (record { said = checked.Refused refusal.IdNotRegistered; seen = lookOf freeMotor }) e l
 
-    pub remove-found : (now : ℕ) (k : Checked) (r : Told) → k ≡ removalOf y now → r ≡ removedAt k st i → r ≡ removeIn st id now
+    pub remove-found : (now : ℕ) (k : Checked) (r : After) → k ≡ removalOf y now → r ≡ removedAt k st i → r ≡ removeIn st id now
     unfolding removeIn
     remove-found now k r p q =
         q
         ∙ ap (λ (b : Checked). removedAt b st i) (p ∙ ap (λ (m : Motor). removalOf m now) at)
-        ∙ at-found st id i (λ j. removedAt (removalOf (motorAt st j) now) st j) (told st (checked.Refused refusal.IdNotRegistered)) e l
+        ∙ at-found st id i (λ j. removedAt (removalOf (motorAt st j) now) st j) (tells st (checked.Refused refusal.IdNotRegistered)) e l
 
   module _ (l : 8 ≤ i) where
-    pub start-none : (c : Command) (now : ℕ) (r : Moved) → r ≡ unmoved st → r ≡ startIn st id c now
+    pub start-none : (c : Command) (now : ℕ) (r : After) → r ≡ unmoved st → r ≡ startIn st id c now
     unfolding startIn
     start-none c now r q = q ∙ at-none st id i (λ j. movedAt st j (startOf (motorAt st j) c now)) (unmoved st) e l
 
-    pub step-none : (now : ℕ) (r : Moved) → r ≡ unmoved st → r ≡ stepIn st id now
+    pub step-none : (now : ℕ) (r : After) → r ≡ unmoved st → r ≡ stepIn st id now
     unfolding stepIn
     step-none now r q = q ∙ at-none st id i (λ j. movedAt st j (stepOf (motorAt st j) now)) (unmoved st) e l
 
@@ -124,24 +123,24 @@ module _ (st : Station) (id i : ℕ) (e : i ≡ takenPlace (st .motors) id) wher
         ∙ at-none {A = Looked} st id i (λ j. record { said = checked.Passed; seen = lookOf (motorAt st j) })
         (record { said = checked.Refused refusal.IdNotRegistered; seen = lookOf freeMotor }) e l
 
-    pub remove-none : (now : ℕ) (r : Told) → r ≡ told st (checked.Refused refusal.IdNotRegistered) → r ≡ removeIn st id now
+    pub remove-none : (now : ℕ) (r : After) → r ≡ tells st (checked.Refused refusal.IdNotRegistered) → r ≡ removeIn st id now
     unfolding removeIn
     remove-none now r q =
-        q ∙ at-none st id i (λ j. removedAt (removalOf (motorAt st j) now) st j) (told st (checked.Refused refusal.IdNotRegistered)) e l
+        q ∙ at-none st id i (λ j. removedAt (removalOf (motorAt st j) now) st j) (tells st (checked.Refused refusal.IdNotRegistered)) e l
 
 -- ---- a frame
 
 module _ (st : Station) (f : CanFrame) (now n : ℕ) (named : n ≡ source f) (b : Bool) (tested : b ≡ accepts n f) where
-  frame-by : Bool → Told
+  frame-by : Bool → After
   frame-by k =
-      cond k (atPlace st (source f) (λ j. heardAt st j (heardOf (motorAt st j) f now)) (told st (checked.Refused refusal.FrameNotAccepted)))
-      (told st (checked.Refused refusal.FrameNotAccepted))
+      cond k (atPlace st (source f) (λ j. heardAt st j (heardOf (motorAt st j) f now)) (tells st (checked.Refused refusal.FrameNotAccepted)))
+      (tells st (checked.Refused refusal.FrameNotAccepted))
 
   decided : frame-by b ≡ frameIn st f now
   unfolding frameIn frame-by
   decided = ap frame-by (tested ∙ ap (λ (k : ℕ). accepts k f) named)
 
-  pub frame-unheard : b ≡ false → (r : Told) → r ≡ told st (checked.Refused refusal.FrameNotAccepted) → r ≡ frameIn st f now
+  pub frame-unheard : b ≡ false → (r : After) → r ≡ tells st (checked.Refused refusal.FrameNotAccepted) → r ≡ frameIn st f now
   unfolding frame-by
   frame-unheard p r q = q ∙ sym (ap frame-by p) ∙ decided
 
@@ -149,54 +148,54 @@ module _ (st : Station) (f : CanFrame) (now n : ℕ) (named : n ≡ source f) (b
     here : i ≡ takenPlace (st .motors) (source f)
     here = e ∙ ap (λ (k : ℕ). takenPlace (st .motors) k) named
 
-    pub frame-found : i < 8 → (y : Motor) → y ≡ getD (st .motors) i freeMotor → (h : Heard) (r : Told) → h ≡ heardOf y f now → r ≡ heardAt st i h
+    pub frame-found : i < 8 → (y : Motor) → y ≡ getD (st .motors) i freeMotor → (h : Heard) (r : After) → h ≡ heardOf y f now → r ≡ heardAt st i h
         → r ≡ frameIn st f now
     unfolding frame-by
     frame-found l y at h r v q =
         q
         ∙ ap (λ (k : Heard). heardAt st i k) (v ∙ ap (λ (m : Motor). heardOf m f now) at)
-        ∙ at-found st (source f) i (λ j. heardAt st j (heardOf (motorAt st j) f now)) (told st (checked.Refused refusal.FrameNotAccepted)) here l
+        ∙ at-found st (source f) i (λ j. heardAt st j (heardOf (motorAt st j) f now)) (tells st (checked.Refused refusal.FrameNotAccepted)) here l
         ∙ sym (ap frame-by p)
         ∙ decided
 
-    pub frame-none : 8 ≤ i → (r : Told) → r ≡ told st (checked.Refused refusal.FrameNotAccepted) → r ≡ frameIn st f now
+    pub frame-none : 8 ≤ i → (r : After) → r ≡ tells st (checked.Refused refusal.FrameNotAccepted) → r ≡ frameIn st f now
     unfolding frame-by
     frame-none l r q =
         q
-        ∙ at-none st (source f) i (λ j. heardAt st j (heardOf (motorAt st j) f now)) (told st (checked.Refused refusal.FrameNotAccepted)) here l
+        ∙ at-none st (source f) i (λ j. heardAt st j (heardOf (motorAt st j) f now)) (tells st (checked.Refused refusal.FrameNotAccepted)) here l
         ∙ sym (ap frame-by p)
         ∙ decided
 
 -- ---- a registration
 
 module _ (st : Station) (id host : ℕ) (model : Model) (wait time i : ℕ) (e : i ≡ takenPlace (st .motors) id) where
-  pub admitted-found : i < 8 → (r : Told) → r ≡ told st (checked.Refused refusal.IdRegistered) → r ≡ admittedIn st id host model wait time
+  pub admitted-found : i < 8 → (r : After) → r ≡ tells st (checked.Refused refusal.IdRegistered) → r ≡ admittedIn st id host model wait time
   unfolding admittedIn
-  admitted-found l r q = q ∙ at-found st id i (λ j. told st (checked.Refused refusal.IdRegistered)) (enteredIn st (newMotor id host model wait time)) e l
+  admitted-found l r q = q ∙ at-found st id i (λ j. tells st (checked.Refused refusal.IdRegistered)) (enteredIn st (newMotor id host model wait time)) e l
 
   module _ (l : 8 ≤ i) (k : ℕ) (f : k ≡ indexOf (st .motors) 0) where
-    entered : (r : Told) → r ≡ enteredIn st (newMotor id host model wait time) → r ≡ admittedIn st id host model wait time
+    entered : (r : After) → r ≡ enteredIn st (newMotor id host model wait time) → r ≡ admittedIn st id host model wait time
     unfolding admittedIn
-    entered r q = q ∙ at-none st id i (λ j. told st (checked.Refused refusal.IdRegistered)) (enteredIn st (newMotor id host model wait time)) e l
+    entered r q = q ∙ at-none st id i (λ j. tells st (checked.Refused refusal.IdRegistered)) (enteredIn st (newMotor id host model wait time)) e l
 
-    pub admitted-room : k < 8 → (m : Motor) (after : Station) (r : Told) → m ≡ newMotor id host model wait time → after ≡ withMotor st k m
-        → r ≡ told after checked.Passed → r ≡ admittedIn st id host model wait time
+    pub admitted-room : k < 8 → (m : Motor) (after : Station) (r : After) → m ≡ newMotor id host model wait time → after ≡ withMotor st k m
+        → r ≡ tells after checked.Passed → r ≡ admittedIn st id host model wait time
     unfolding enteredIn
     admitted-room b m after r p w q =
         entered r
         (q
-        ∙ ap (λ (a : Station). told a checked.Passed) (w ∙ ap (λ (y : Motor). withMotor st k y) p)
-        ∙ branch (indexOf (st .motors) 0) k (λ j. told (withMotor st j (newMotor id host model wait time)) checked.Passed) (told st (checked.Refused refusal.StationFull)) f b)
+        ∙ ap (λ (a : Station). tells a checked.Passed) (w ∙ ap (λ (y : Motor). withMotor st k y) p)
+        ∙ branch (indexOf (st .motors) 0) k (λ j. tells (withMotor st j (newMotor id host model wait time)) checked.Passed) (tells st (checked.Refused refusal.StationFull)) f b)
 
-    pub admitted-full : 8 ≤ k → (r : Told) → r ≡ told st (checked.Refused refusal.StationFull) → r ≡ admittedIn st id host model wait time
+    pub admitted-full : 8 ≤ k → (r : After) → r ≡ tells st (checked.Refused refusal.StationFull) → r ≡ admittedIn st id host model wait time
     unfolding enteredIn
     admitted-full b r q =
         entered r
         (q
-        ∙ pass (indexOf (st .motors) 0) k (told (withMotor st (indexOf (st .motors) 0) (newMotor id host model wait time)) checked.Passed)
-        (told st (checked.Refused refusal.StationFull)) f b)
+        ∙ pass (indexOf (st .motors) 0) k (tells (withMotor st (indexOf (st .motors) 0) (newMotor id host model wait time)) checked.Passed)
+        (tells st (checked.Refused refusal.StationFull)) f b)
 
-pub registered : (st : Station) (id host : ℕ) (model : ModelNamed) (wait time : ℕ) (k j : Admission) (r : Told)
+pub registered : (st : Station) (id host : ℕ) (model : ModelNamed) (wait time : ℕ) (k j : Admission) (r : After)
     → k ≡ registrationOf id host model wait time → k ≡ j → r ≡ registerBy j st id host wait time → r ≡ registerIn st id host model wait time
 unfolding registerIn
 registered st id host model wait time k j r p v q = q ∙ ap (λ (a : Admission). registerBy a st id host wait time) (sym v ∙ p)

@@ -1,26 +1,29 @@
--- The six calls over the functions' own contracts: by what they promise, answer and next station are document 01's. `Reads.Post` of
--- a function is what its contract promises, as the check has read it: a contract that is weakened or dropped breaks this file.
+-- What a call gives, by the definitions, is document 01's; and by the six functions' own contracts it is what they return. `Reads.Post`
+-- of a function is what its contract promises, as the check has read it: a contract that is weakened or dropped breaks this file.
 -- Assumes nothing.
 use mathlib.Core.Path.{_≡_, refl, sym, ap, _∙_, subst}
-use mathlib.Core.List.{List}
+use mathlib.Core.List.{List, [], _∷_}
 use mathlib.Core.Option.{Option, none, some}
 use Prim.Native.Nat.{ℕ}
 use base.Fml.{Lft}
 use denote.Ref.{RefT, now}
 use Rattle.codec.specs.declared.bus.CanFrame.{CanFrame}
+use Rattle.codec.specs.declared.error.Checked.the-variants as checked
 use Rattle.codec.specs.declared.error.Refusal.the-variants as refusal
+use Rattle.codec.specs.declared.model.ModelNamed.{ModelNamed}
 use Rattle.codec.specs.Models.{modelNamed}
-use Rattle.motor.specs.declared.engine.command.Command.{Command}
 use Rattle.motor.specs.Lone.{Lone, loneLook}
-use Rattle.station.specs.declared.station.Station.{Station}
-use Rattle.station.specs.declared.station.Moved.{Moved}
-use Rattle.station.specs.declared.station.Told.{Told as Answered}
+use Rattle.station.specs.declared.call.Answer.the-variants as answer
+use Rattle.station.specs.declared.call.Asked.{Asked}
+use Rattle.station.specs.declared.call.Call.{Call}
+use Rattle.station.specs.declared.call.Call.the-variants as call
+use Rattle.station.specs.declared.station.After.{After}
 use Rattle.station.specs.declared.station.Looked.{Looked}
-use Rattle.station.specs.Calls.{Call, register, start, step, frame, look, remove}
-use Rattle.station.specs.Calls.{Answer, no, says, shows, answered, refuses}
-use Rattle.station.specs.Station.{Place, held, lone, route, stationCall}
-use Rattle.station.specs.Stations.{registerIn, startIn, stepIn, frameIn, lookIn, removeIn, answerOf, Shows, ToldAs, MovedAs}
-use Rattle.station.proofs.Meanings.{look-means}
+use Rattle.station.specs.declared.station.Station.{Station}
+use Rattle.station.specs.Calls.{look, Reply, reply, gives, shows, refused, refuses}
+use Rattle.station.specs.Station.{Place, held, loneBy, route, stationBy, stationCall}
+use Rattle.station.specs.Stations.{registerIn, startIn, stepIn, frameIn, lookIn, removeIn, replyOf, Shows, LeavesAs}
+use Rattle.station.proofs.Meanings.{register-means, start-means, step-means, frame-means, look-means, remove-means}
 use Rattle.station.proofs.station.new.Reads as new-reads
 use Rattle.station.proofs.station.register.Reads as register-reads
 use Rattle.station.proofs.station.start.Reads as start-reads
@@ -29,151 +32,146 @@ use Rattle.station.proofs.station.frame.Reads as frame-reads
 use Rattle.station.proofs.station.look.Reads as look-reads
 use Rattle.station.proofs.station.remove.Reads as remove-reads
 
--- A call of one of the six functions with its arguments, and the call of document 01 that it is.
-pub data Request : Type 0 where
-  registering : (lifetime : Lft) (id host : ℕ) (name : RefT (List ℕ)) (wait time : ℕ) → Request
-  starting : (id : ℕ) (c : Command) (now : ℕ) → Request
-  stepping : (id now : ℕ) → Request
-  receiving : (f : CanFrame) (now : ℕ) → Request
-  looking : (id : ℕ) → Request
-  removing : (id now : ℕ) → Request
+-- ---- what a call returns
 
-unfoldable pub callOf : Request → Call
-callOf (registering κ m host name wait time) = register m host (modelNamed (now name)) wait time
-callOf (starting m c now) = start m c now
-callOf (stepping m now) = step m now
-callOf (receiving f now) = frame f now
-callOf (looking m) = look m
-callOf (removing m now) = remove m now
-
--- What a function returns, the answer that it is, and the station after it: a look returns none and changes none.
+-- A look returns no station, and changes none.
 pub data Out : Type 0 where
-  moved : Moved → Out
-  told : Answered → Out
+  after : After → Out
   looked : Looked → Out
 
-unfoldable pub answerIn : Out → Answer
-answerIn (moved r) = says (r .said) (r .frame) (r .result)
-answerIn (told r) = answered (r .said)
-answerIn (looked r) = answerOf r
+unfoldable pub replyIn : Out → Reply
+replyIn (after r) = gives (r .replied)
+replyIn (looked r) = replyOf r
 
 unfoldable pub next : Station → Out → Station
-next st (moved r) = r .station
-next st (told r) = r .station
+next st (after r) = r .station
 next st (looked r) = st
 
--- What the contracts promise of a new station, and of what a call returns.
-abbrev pub New : Station → Type 0
-New st = new-reads.Post tt tt st tt
+-- by the definitions, whatever the station
+unfoldable pub givenBy : Station → Call → CanFrame → Out
+givenBy st (call.Register m h k w t) f = after (registerIn st m h k w t)
+givenBy st (call.Start m c t) f = after (startIn st m c t)
+givenBy st (call.Step m t) f = after (stepIn st m t)
+givenBy st (call.Frame t) f = after (frameIn st f t)
+givenBy st (call.Look m) f = looked (lookIn st m)
+givenBy st (call.Remove m t) f = after (removeIn st m t)
 
-abbrev pub Gives : Station → Request → Out → Type 0
-Gives st (registering κ m h n w t) (moved r) = ⊥
-Gives st (registering κ m h n w t) (told r) =
-    register-reads.Post (κ, tt) (st, (m, (h, (n, (w, (t, tt)))))) r (st, (m, (h, (n, (w, (t, tt))))))
-Gives st (registering κ m h n w t) (looked r) = ⊥
-Gives st (starting m c t) (moved r) = start-reads.Post tt (st, (m, (c, (t, tt)))) r (st, (m, (c, (t, tt))))
-Gives st (starting m c t) (told r) = ⊥
-Gives st (starting m c t) (looked r) = ⊥
-Gives st (stepping m t) (moved r) = step-reads.Post tt (st, (m, (t, tt))) r (st, (m, (t, tt)))
-Gives st (stepping m t) (told r) = ⊥
-Gives st (stepping m t) (looked r) = ⊥
-Gives st (receiving f t) (moved r) = ⊥
-Gives st (receiving f t) (told r) = frame-reads.Post tt (st, (f, (t, tt))) r (st, (f, (t, tt)))
-Gives st (receiving f t) (looked r) = ⊥
-Gives st (looking m) (moved r) = ⊥
-Gives st (looking m) (told r) = ⊥
-Gives st (looking m) (looked r) = look-reads.Post tt (st, (m, tt)) r (st, (m, tt))
-Gives st (removing m t) (moved r) = ⊥
-Gives st (removing m t) (told r) = remove-reads.Post tt (st, (m, (t, tt))) r (st, (m, (t, tt)))
-Gives st (removing m t) (looked r) = ⊥
+abbrev pub given : Station → Asked → Out
+given st a = givenBy st (a .call) (a .frame)
 
--- By the first clauses it is the definition's value, whatever the station.
-unfoldable pub given : Station → Request → Out
-given st (registering κ m h n w t) = told (registerIn st m h (modelNamed (now n)) w t)
-given st (starting m c t) = moved (startIn st m c t)
-given st (stepping m t) = moved (stepIn st m t)
-given st (receiving f t) = told (frameIn st f t)
-given st (looking m) = looked (lookIn st m)
-given st (removing m t) = told (removeIn st m t)
+-- ---- it is a call of document 01
 
-pub gives-given : (st : Station) (q : Request) (o : Out) → Gives st q o → given st q ≡ o
-unfolding given
-gives-given st (registering κ m h n w t) (moved r) g = absurd g
-gives-given st (registering κ m h n w t) (told r) g = ap {B = Out} told (sym (g .0))
-gives-given st (registering κ m h n w t) (looked r) g = absurd g
-gives-given st (starting m c t) (moved r) g = ap {B = Out} moved (sym (g .0))
-gives-given st (starting m c t) (told r) g = absurd g
-gives-given st (starting m c t) (looked r) g = absurd g
-gives-given st (stepping m t) (moved r) g = ap {B = Out} moved (sym (g .0))
-gives-given st (stepping m t) (told r) g = absurd g
-gives-given st (stepping m t) (looked r) g = absurd g
-gives-given st (receiving f t) (moved r) g = absurd g
-gives-given st (receiving f t) (told r) g = ap {B = Out} told (sym (g .0))
-gives-given st (receiving f t) (looked r) g = absurd g
-gives-given st (looking m) (moved r) g = absurd g
-gives-given st (looking m) (told r) g = absurd g
-gives-given st (looking m) (looked r) g = ap {B = Out} looked (sym (g .0))
-gives-given st (removing m t) (moved r) g = absurd g
-gives-given st (removing m t) (told r) g = ap {B = Out} told (sym (g .0))
-gives-given st (removing m t) (looked r) g = absurd g
+abbrev pub Follows : Station → Out → Reply × List Place → Type 0
+Follows st o r = (replyIn o ≡ r .0) × Shows (next st o) (r .1)
+
+after-follows : (st : Station) (r : After) (x : Reply × List Place) → LeavesAs r x → Follows st (after r) x
+unfolding replyIn next
+after-follows st r x a = (a .answer, a .station)
+
+look-follows : (st : Station) (s : List Place) (m : ℕ) (f : CanFrame) (r : Looked) → Shows st s → (replyOf r, s) ≡ stationBy s (call.Look m) f
+    → Follows st (looked r) (stationBy s (call.Look m) f)
+unfolding replyIn next
+look-follows st s m f r x e = (ap (λ (a : Reply × List Place). a .0) e, subst (λ (a : Reply × List Place). Shows st (a .1)) e x)
+
+follows-by : (st : Station) (s : List Place) (c : Call) (f : CanFrame) → Shows st s → Follows st (givenBy st c f) (stationBy s c f)
+unfolding givenBy stationBy loneBy
+follows-by st s (call.Register m h k w t) f x = after-follows st _ _ (register-means st s x m h k w t)
+follows-by st s (call.Start m c t) f x = after-follows st _ _ (start-means st s x m c t)
+follows-by st s (call.Step m t) f x = after-follows st _ _ (step-means st s x m t)
+follows-by st s (call.Frame t) f x = after-follows st _ _ (frame-means st s x f t)
+follows-by st s (call.Look m) f x = look-follows st s m f _ x (look-means st s x m)
+follows-by st s (call.Remove m t) f x = after-follows st _ _ (remove-means st s x m t)
+
+pub follows : (st : Station) (s : List Place) (a : Asked) → Shows st s → Follows st (given st a) (stationCall s a)
+follows st s a = follows-by st s (a .call) (a .frame)
+
+-- what is so of document 01's reply and next station is so of the code's
+pub by-meaning : (st : Station) (s : List Place) → Shows st s → (a : Asked) (P : Reply → List Place → Type 0)
+    → P ((stationCall s a) .0) ((stationCall s a) .1) → (t : List Place) × Shows (next st (given st a)) t × P (replyIn (given st a)) t
+by-meaning st s x a P p =
+    let f = follows st s a x in
+    let t = (stationCall s a) .1 in
+    (t, f .1, subst (λ (r : Reply). P r t) (sym (f .0)) p)
 
 -- What a look at m shows: clock, counts, feedback, fault report, ping reply, readings, gains and operation.
-unfoldable pub seen : Station → ℕ → Answer
-seen st m = answerOf (lookIn st m)
+unfoldable pub seen : Station → ℕ → Reply
+seen st m = replyOf (lookIn st m)
 
-unfoldable pub shown : Option Lone → Answer
-shown none = no refusal.IdNotRegistered
+unfoldable pub shown : Option Lone → Reply
+shown none = gives (reply (answer.Looked (checked.Refused refusal.IdNotRegistered)))
 shown (some h) = shows (loneLook h)
-
--- ---- a call of the code is a call of document 01
-
-abbrev pub Follows : Station → List Place → Request → Out → Type 0
-Follows st s q o = (answerIn o ≡ (stationCall s (callOf q)) .0) × Shows (next st o) ((stationCall s (callOf q)) .1)
-
-told-follows : (st : Station) (s : List Place) (q : Request) (r : Answered) → ToldAs r (stationCall s (callOf q)) → Follows st s q (told r)
-unfolding answerIn next
-told-follows st s q r a = (a .answer, a .station)
-
-moved-follows : (st : Station) (s : List Place) (q : Request) (r : Moved) → MovedAs r (stationCall s (callOf q)) → Follows st s q (moved r)
-unfolding answerIn next
-moved-follows st s q r a = (a .answer, a .station)
-
-pub follows : (st : Station) (s : List Place) (q : Request) (o : Out) → Shows st s → Gives st q o → Follows st s q o
-unfolding callOf answerIn next
-follows st s (registering κ m h n w t) (moved r) x g = absurd g
-follows st s (registering κ m h n w t) (told r) x g = told-follows st s (registering κ m h n w t) r (g .1 s x)
-follows st s (registering κ m h n w t) (looked r) x g = absurd g
-follows st s (starting m c t) (moved r) x g = moved-follows st s (starting m c t) r (g .1 s x)
-follows st s (starting m c t) (told r) x g = absurd g
-follows st s (starting m c t) (looked r) x g = absurd g
-follows st s (stepping m t) (moved r) x g = moved-follows st s (stepping m t) r (g .1 s x)
-follows st s (stepping m t) (told r) x g = absurd g
-follows st s (stepping m t) (looked r) x g = absurd g
-follows st s (receiving f t) (moved r) x g = absurd g
-follows st s (receiving f t) (told r) x g = told-follows st s (receiving f t) r (g .1 s x)
-follows st s (receiving f t) (looked r) x g = absurd g
-follows st s (looking m) (moved r) x g = absurd g
-follows st s (looking m) (told r) x g = absurd g
-follows st s (looking m) (looked r) x g =
-    let e = g .1 s x in
-    (ap (λ (a : Answer × List Place). a .0) e, subst (λ (a : Answer × List Place). Shows st (a .1)) e x)
-follows st s (removing m t) (moved r) x g = absurd g
-follows st s (removing m t) (told r) x g = told-follows st s (removing m t) r (g .1 s x)
-follows st s (removing m t) (looked r) x g = absurd g
-
--- what is so of document 01's answer and next station is so of the code's
-pub by-contract : (st : Station) (s : List Place) → Shows st s → (q : Request) (o : Out) → Gives st q o → (P : Answer → List Place → Type 0)
-    → P ((stationCall s (callOf q)) .0) ((stationCall s (callOf q)) .1) → (t : List Place) × Shows (next st o) t × P (answerIn o) t
-by-contract st s x q o g P p =
-    let f = follows st s q o x g in
-    let t = (stationCall s (callOf q)) .1 in
-    (t, f .1, subst (λ (a : Answer). P a t) (sym (f .0)) p)
 
 -- a look shows what is held
 pub seen-is : (st : Station) (s : List Place) (m : ℕ) → Shows st s → seen st m ≡ shown (held s m)
-unfolding seen shown stationCall route refuses lone
-seen-is st s m x = ap (λ (a : Answer × List Place). a .0) (look-means st s x m) ∙ go (held s m)
+unfolding seen shown stationBy route refused loneBy
+seen-is st s m x = ap (λ (a : Reply × List Place). a .0) (look-means st s x m) ∙ go (held s m)
   where
-    go : (o : Option Lone) → (route s m o refusal.IdNotRegistered (look m)) .0 ≡ shown o
+    go : (o : Option Lone) → (route s m o (refuses (call.Look m) refusal.IdNotRegistered) (λ h. (shows (loneLook h), some h))) .0 ≡ shown o
     go none = refl
     go (some h) = refl
+
+-- ---- the functions' own contracts
+
+-- What they promise of a new station, and of what a call returns; a registration is given a name that names the model.
+abbrev pub New : Station → Type 0
+New st = new-reads.Post tt tt st tt
+
+abbrev Registers : Station → ℕ → ℕ → ModelNamed → ℕ → ℕ → After → Type 0
+Registers st m h k w t r =
+    (κ : Lft) × (n : RefT (List ℕ)) × (modelNamed (now n) ≡ k) × register-reads.Post (κ, tt) (st, (m, (h, (n, (w, (t, tt)))))) r (st, (m, (h, (n, (w, (t, tt))))))
+
+abbrev pub GivesBy : Station → Call → CanFrame → Out → Type 0
+GivesBy st (call.Register m h k w t) f (after r) = Registers st m h k w t r
+GivesBy st (call.Register m h k w t) f (looked r) = ⊥
+GivesBy st (call.Start m c t) f (after r) = start-reads.Post tt (st, (m, (c, (t, tt)))) r (st, (m, (c, (t, tt))))
+GivesBy st (call.Start m c t) f (looked r) = ⊥
+GivesBy st (call.Step m t) f (after r) = step-reads.Post tt (st, (m, (t, tt))) r (st, (m, (t, tt)))
+GivesBy st (call.Step m t) f (looked r) = ⊥
+GivesBy st (call.Frame t) f (after r) = frame-reads.Post tt (st, (f, (t, tt))) r (st, (f, (t, tt)))
+GivesBy st (call.Frame t) f (looked r) = ⊥
+GivesBy st (call.Look m) f (after r) = ⊥
+GivesBy st (call.Look m) f (looked r) = look-reads.Post tt (st, (m, tt)) r (st, (m, tt))
+GivesBy st (call.Remove m t) f (after r) = remove-reads.Post tt (st, (m, (t, tt))) r (st, (m, (t, tt)))
+GivesBy st (call.Remove m t) f (looked r) = ⊥
+
+abbrev pub Gives : Station → Asked → Out → Type 0
+Gives st a o = GivesBy st (a .call) (a .frame) o
+
+-- by the first clauses it is the definition's value
+gives-by : (st : Station) (c : Call) (f : CanFrame) (o : Out) → GivesBy st c f o → givenBy st c f ≡ o
+unfolding givenBy
+gives-by st (call.Register m h k w t) f (after r) g = ap {B = Out} after (sym (g .3 .0 ∙ ap (λ (j : ModelNamed). registerIn st m h j w t) (g .2)))
+gives-by st (call.Register m h k w t) f (looked r) g = absurd g
+gives-by st (call.Start m c t) f (after r) g = ap {B = Out} after (sym (g .0))
+gives-by st (call.Start m c t) f (looked r) g = absurd g
+gives-by st (call.Step m t) f (after r) g = ap {B = Out} after (sym (g .0))
+gives-by st (call.Step m t) f (looked r) g = absurd g
+gives-by st (call.Frame t) f (after r) g = ap {B = Out} after (sym (g .0))
+gives-by st (call.Frame t) f (looked r) g = absurd g
+gives-by st (call.Look m) f (after r) g = absurd g
+gives-by st (call.Look m) f (looked r) g = ap {B = Out} looked (sym (g .0))
+gives-by st (call.Remove m t) f (after r) g = ap {B = Out} after (sym (g .0))
+gives-by st (call.Remove m t) f (looked r) g = absurd g
+
+pub gives-given : (st : Station) (a : Asked) (o : Out) → Gives st a o → given st a ≡ o
+gives-given st a = gives-by st (a .call) (a .frame)
+
+-- and by the second ones, on a good station, document 01's
+means-by : (st : Station) (s : List Place) (c : Call) (f : CanFrame) (o : Out) → Shows st s → GivesBy st c f o → Follows st o (stationBy s c f)
+unfolding stationBy loneBy
+means-by st s (call.Register m h k w t) f (after r) x g =
+    after-follows st r _ (subst (λ (j : ModelNamed). LeavesAs r (stationBy s (call.Register m h j w t) f)) (g .2) (g .3 .1 s x))
+means-by st s (call.Register m h k w t) f (looked r) x g = absurd g
+means-by st s (call.Start m c t) f (after r) x g = after-follows st r _ (g .1 s x)
+means-by st s (call.Start m c t) f (looked r) x g = absurd g
+means-by st s (call.Step m t) f (after r) x g = after-follows st r _ (g .1 s x)
+means-by st s (call.Step m t) f (looked r) x g = absurd g
+means-by st s (call.Frame t) f (after r) x g = after-follows st r _ (g .1 s x)
+means-by st s (call.Frame t) f (looked r) x g = absurd g
+means-by st s (call.Look m) f (after r) x g = absurd g
+means-by st s (call.Look m) f (looked r) x g = look-follows st s m f r x (g .1 s x)
+means-by st s (call.Remove m t) f (after r) x g = after-follows st r _ (g .1 s x)
+means-by st s (call.Remove m t) f (looked r) x g = absurd g
+
+pub gives-means : (st : Station) (s : List Place) (a : Asked) (o : Out) → Shows st s → Gives st a o → Follows st o (stationCall s a)
+gives-means st s a = means-by st s (a .call) (a .frame)

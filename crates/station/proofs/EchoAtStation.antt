@@ -16,9 +16,9 @@ use Rattle.motor.specs.Calls.{startSaid}
 use Rattle.motor.specs.Lone.{Lone, loneStartBy, loneStart, hears}
 use Rattle.motor.specs.Receive.{accepts}
 use Rattle.motor.proofs.Echo.{Carries, echo}
-use Rattle.station.specs.Calls.{start, frame}
-use Rattle.station.specs.Calls.{Answer, ok, no, says, answered, refuses}
-use Rattle.station.specs.Station.{Place, free, taken, held, put, place, movesTo, hearsTo, lone, route, source, stationCall}
+use Rattle.station.specs.declared.call.Call.the-variants as call
+use Rattle.station.specs.Calls.{start, frame, Reply, ok, no, says, answered, refused, refuses}
+use Rattle.station.specs.Station.{Place, free, taken, held, put, place, movesTo, hearsTo, loneBy, route, source, stationBy, stationCall}
 use Rattle.station.specs.History.{isOk}
 use Rattle.station.specs.Demand2.{unrefused, sentIn, reading, Echo}
 
@@ -34,9 +34,9 @@ put-some (taken j i ∷ s) m h k e = go (eqb j m) refl e (put-some s m h k)
     go true p q ih = cond-yes (some k) (held s m) p
     go false p q ih = cond-no (some i) (held (put s m (some k)) m) p ∙ ih q
 
-not-ok : {A : Type 0} (a : Answer) → isOk a ≡ false → a ≡ ok → A
+not-ok : {A : Type 0} (r : Reply) → isOk (r .replied .answer) ≡ false → r ≡ ok → A
 unfolding isOk
-not-ok a e q = absurd (true≢false (sym (ap isOk q) ∙ e))
+not-ok r e q = absurd (true≢false (sym (ap (λ (x : Reply). isOk (x .replied .answer)) q) ∙ e))
 
 -- ---- a frame that isn't refused
 
@@ -48,11 +48,12 @@ pub record Taken (s : List Place) (f : CanFrame) (time : ℕ) : Type 0 where
   pub station : (stationCall s (frame f time)) .1 ≡ put s (source f) (some (hears by f time .lone))
 
 -- where a frame goes, by whether it is accepted and what is held for its source
-abbrev pub to : List Place → CanFrame → ℕ → Bool → Option Lone → Answer × List Place
-to s f time b o = cond b (route s (source f) o refusal.FrameNotAccepted (frame f time)) (no refusal.FrameNotAccepted, s)
+abbrev pub to : List Place → CanFrame → ℕ → Bool → Option Lone → Reply × List Place
+to s f time b o =
+    cond b (route s (source f) o (refuses (call.Frame time) refusal.FrameNotAccepted) (λ h. loneBy h (call.Frame time) f)) (no refusal.FrameNotAccepted, s)
 
 pub taken-in : (s : List Place) (f : CanFrame) (time : ℕ) → (stationCall s (frame f time)) .0 ≡ ok → Taken s f time
-unfolding stationCall route refuses lone hearsTo isOk answered
+unfolding stationBy route refused loneBy hearsTo isOk
 taken-in s f time e = go (accepts (source f) f) (held s (source f)) refl refl e
   where
     passes : (k : Checked) → answered k ≡ ok → k ≡ checked.Passed
@@ -79,7 +80,7 @@ pub record Began (s : List Place) (m : ℕ) (c : Command) (time : ℕ) : Type 0 
   pub answer : sentIn ((stationCall s (start m c time)) .0) ≡ loneStart by c time .frame
 
 pub began : (s : List Place) (m : ℕ) (c : Command) (time : ℕ) → unrefused ((stationCall s (start m c time)) .0) ≡ true → Began s m c time
-unfolding stationCall route refuses lone movesTo unrefused sentIn
+unfolding stationBy route refused loneBy movesTo
 began s m c time e = go (held s m) refl e
   where
     passes : (h : Lone) (k : Checked) → unrefused (says (loneStartBy k h c time .said) (loneStartBy k h c time .frame) (loneStartBy k h c time .result)) ≡ true
@@ -87,13 +88,16 @@ began s m c time e = go (held s m) refl e
     passes h checked.Passed q = refl
     passes h (checked.Refused r) q = absurd (true≢false (sym q))
 
-    go : (o : Option Lone) → held s m ≡ o → unrefused ((route s m o refusal.IdNotRegistered (start m c time)) .0) ≡ true → Began s m c time
+    there : Option Lone → Reply × List Place
+    there o = route s m o (refuses (call.Start m c time) refusal.IdNotRegistered) (λ h. loneBy h (call.Start m c time) (start m c time .frame))
+
+    go : (o : Option Lone) → held s m ≡ o → unrefused ((there o) .0) ≡ true → Began s m c time
     go none p q = absurd (true≢false (sym q))
     go (some h) p q =
         record {
           by = h;
           passed = passes h (startSaid (h .state .clock) (h .state .operation .phase) c time) q;
-          answer = ap (λ (o : Option Lone). sentIn ((route s m o refusal.IdNotRegistered (start m c time)) .0)) p;
+          answer = ap (λ (o : Option Lone). sentIn ((there o) .0)) p;
         }
 
 -- ---- echo

@@ -31,10 +31,11 @@ use Rattle.motor.specs.Readings.{entry, lookup, insert, remove, room}
 use Rattle.motor.specs.Receive.{accepts, late, isRead, readStatus, readId, readStored, frameSaid, readingsAfter}
 use Rattle.motor.proofs.Echo.{WrittenOut, heard-held, written-out}
 use Rattle.motor.proofs.ReceivingTheorems.{heldKind, kinds-held}
-use Rattle.station.specs.Calls.{Call, register, start, step, frame, look}
-use Rattle.station.specs.Calls.{Answer, ok, no, answered}
-use Rattle.station.specs.Calls.{remove as removing}
-use Rattle.station.specs.Station.{Place, free, taken, empty, held, add, put, place, leaves, movesTo, hearsTo, lone, route, admission, enter, admit, source, stationCall}
+use Rattle.station.specs.declared.call.Asked.{Asked}
+use Rattle.station.specs.declared.call.Call.{Call}
+use Rattle.station.specs.declared.call.Call.the-variants as call
+use Rattle.station.specs.Calls.{frame, Reply, ok, no, answered}
+use Rattle.station.specs.Station.{Place, free, taken, empty, held, add, put, place, leaves, movesTo, hearsTo, loneBy, route, admission, enter, admit, source, toSource, stationBy, stationCall}
 use Rattle.station.specs.History.{Told, after}
 use Rattle.station.specs.Demand2.{In, telling, Came, HeldReading, Readings}
 use Rattle.station.proofs.EchoAtStation.{to}
@@ -68,13 +69,13 @@ each-remove P id (e ∷ l) a = each-cond P (eqb (e .id) id) l _ (a .1) (a .0, ea
 -- ---- the lone motor
 
 -- a property of a call that is a frame
-abbrev OfFrame : (CanFrame → ℕ → Type 0) → Call → Type 0
-OfFrame Q (register m host model wait time) = Unit {0}
-OfFrame Q (start m c now) = Unit {0}
-OfFrame Q (step m now) = Unit {0}
-OfFrame Q (frame f now) = Q f now
-OfFrame Q (look m) = Unit {0}
-OfFrame Q (removing m now) = Unit {0}
+abbrev OfFrame : (ℕ → Type 0) → Call → Type 0
+OfFrame Q (call.Register m host model wait time) = Unit {0}
+OfFrame Q (call.Start m c now) = Unit {0}
+OfFrame Q (call.Step m now) = Unit {0}
+OfFrame Q (call.Frame now) = Q now
+OfFrame Q (call.Look m) = Unit {0}
+OfFrame Q (call.Remove m now) = Unit {0}
 
 module _ (P : Entry → Type 0) where
   each-moved : (e : Effect) (l : List Entry) → Each P l → Each P (readingsBy e (λ id. remove id l) l)
@@ -111,15 +112,15 @@ module _ (P : Entry → Type 0) where
   EachOf none = Unit {0}
   EachOf (some h) = Each P (h .readings)
 
-  each-lone : (h : Lone) (c : Call) → OfFrame (λ f now. hears h f now .said ≡ checked.Passed → isRead f ≡ true → P (entry (readId f) (readStored f))) c
-      → Each P (h .readings) → EachOf ((lone h c) .1)
-  unfolding lone movesTo hearsTo leaves
-  each-lone h (register m host model wait time) p a = a
-  each-lone h (start m c now) p a = each-start (startSaid (h .state .clock) (h .state .operation .phase) c now) h c now a
-  each-lone h (step m now) p a = each-step (stepSaid (h .state .clock) (h .state .operation .phase) now) h now a
-  each-lone h (frame f now) p a = each-heard h f now p a
-  each-lone h (look m) p a = a
-  each-lone h (removing m now) p a = go (loneRemoval h now)
+  each-lone : (h : Lone) (c : Call) (f : CanFrame) → OfFrame (λ now. hears h f now .said ≡ checked.Passed → isRead f ≡ true → P (entry (readId f) (readStored f))) c
+      → Each P (h .readings) → EachOf ((loneBy h c f) .1)
+  unfolding loneBy movesTo hearsTo leaves
+  each-lone h (call.Register m host model wait time) f p a = a
+  each-lone h (call.Start m c now) f p a = each-start (startSaid (h .state .clock) (h .state .operation .phase) c now) h c now a
+  each-lone h (call.Step m now) f p a = each-step (stepSaid (h .state .clock) (h .state .operation .phase) now) h now a
+  each-lone h (call.Frame now) f p a = each-heard h f now p a
+  each-lone h (call.Look m) f p a = a
+  each-lone h (call.Remove m now) f p a = go (loneRemoval h now)
     where
       go : (k : Checked) → EachOf (leaves h k)
       go checked.Passed = tt
@@ -133,9 +134,9 @@ EachAt P (free ∷ s) = EachAt P s
 EachAt P (taken i h ∷ s) = Each (P i) (h .readings) × EachAt P s
 
 -- of what a read reply with status zero puts, where it isn't refused
-abbrev Frames : (ℕ → Entry → Type 0) → List Place → Call → Type 0
-Frames P s c =
-    OfFrame (λ f time. (stationCall s (frame f time)) .0 ≡ ok → accepts (source f) f ≡ true → isRead f ≡ true → readStatus f ≡ 0
+abbrev Frames : (ℕ → Entry → Type 0) → List Place → Call → CanFrame → Type 0
+Frames P s c f =
+    OfFrame (λ time. (stationCall s (frame f time)) .0 ≡ ok → accepts (source f) f ≡ true → isRead f ≡ true → readStatus f ≡ 0
     → P (source f) (entry (readId f) (readStored f))) c
 
 -- a read reply that passes has status zero
@@ -186,12 +187,12 @@ module _ (P : ℕ → Entry → Type 0) where
   each-add (free ∷ s) m h p a = (p, a)
   each-add (taken i k ∷ s) m h p a = (a .0, each-add s m h p (a .1))
 
-  each-route : (s : List Place) (m : ℕ) (o : Option Lone) (n : Refusal) (c : Call) → held s m ≡ o
-      → ((h : Lone) → o ≡ some h → OfFrame (λ f now. hears h f now .said ≡ checked.Passed → isRead f ≡ true → P m (entry (readId f) (readStored f))) c)
-      → EachAt P s → EachAt P ((route s m o n c) .1)
+  each-route : (s : List Place) (m : ℕ) (o : Option Lone) (r : Reply) (c : Call) (f : CanFrame) → held s m ≡ o
+      → ((h : Lone) → o ≡ some h → OfFrame (λ now. hears h f now .said ≡ checked.Passed → isRead f ≡ true → P m (entry (readId f) (readStored f))) c)
+      → EachAt P s → EachAt P ((route s m o r (λ h. loneBy h c f)) .1)
   unfolding route
-  each-route s m none n c e p a = a
-  each-route s m (some h) n c e p a = each-put s m ((lone h c) .1) (each-lone (P m) h c (p h refl) (each-held s m h a e)) a
+  each-route s m none r c f e p a = a
+  each-route s m (some h) r c f e p a = each-put s m ((loneBy h c f) .1) (each-lone (P m) h c f (p h refl) (each-held s m h a e)) a
 
   each-admit : (k : Checked) (s : List Place) (m host : ℕ) (model : ModelNamed) (wait time : ℕ) → EachAt P s → EachAt P ((admit k s m host model wait time) .1)
   unfolding admit enter
@@ -199,26 +200,25 @@ module _ (P : ℕ → Entry → Type 0) where
   each-admit checked.Passed s m host named.Unknown wait time a = a
   each-admit (checked.Refused r) s m host model wait time a = a
 
-  each-frame : (s : List Place) (f : CanFrame) (time : ℕ) → Frames P s (frame f time) → EachAt P s → EachAt P ((stationCall s (frame f time)) .1)
-  unfolding stationCall route lone hearsTo answered
+  each-frame : (s : List Place) (f : CanFrame) (time : ℕ) → Frames P s (call.Frame time) f → EachAt P s → EachAt P ((stationBy s (call.Frame time) f) .1)
+  unfolding stationBy route loneBy hearsTo
   each-frame s f time p a = go (accepts (source f) f) refl
     where
-      go : (b : Bool) → accepts (source f) f ≡ b
-          → EachAt P ((cond b (route s (source f) (held s (source f)) refusal.FrameNotAccepted (frame f time)) (no refusal.FrameNotAccepted, s)) .1)
+      go : (b : Bool) → accepts (source f) f ≡ b → EachAt P ((cond b (toSource s f time) (no refusal.FrameNotAccepted, s)) .1)
       go true q =
-          each-route s (source f) (held s (source f)) refusal.FrameNotAccepted (frame f time) refl
+          each-route s (source f) (held s (source f)) _ (call.Frame time) f refl
           (λ h e k r. p (ap (λ (b : Bool). (to s f time b (held s (source f))) .0) q ∙ ap (λ (o : Option Lone). (to s f time true o) .0) e ∙ ap answered k) q r (zero-status h f time k r))
           a
       go false q = a
 
-  each-call : (s : List Place) (c : Call) → Frames P s c → EachAt P s → EachAt P ((stationCall s c) .1)
-  unfolding stationCall
-  each-call s (register m host model wait time) p a = each-admit (admission s m host model wait time) s m host model wait time a
-  each-call s (start m c now) p a = each-route s m (held s m) refusal.IdNotRegistered (start m c now) refl (λ h e. tt) a
-  each-call s (step m now) p a = each-route s m (held s m) refusal.IdNotRegistered (step m now) refl (λ h e. tt) a
-  each-call s (frame f now) p a = each-frame s f now p a
-  each-call s (look m) p a = each-route s m (held s m) refusal.IdNotRegistered (look m) refl (λ h e. tt) a
-  each-call s (removing m now) p a = each-route s m (held s m) refusal.IdNotRegistered (removing m now) refl (λ h e. tt) a
+  each-call : (s : List Place) (c : Call) (f : CanFrame) → Frames P s c f → EachAt P s → EachAt P ((stationBy s c f) .1)
+  unfolding stationBy
+  each-call s (call.Register m host model wait time) f p a = each-admit (admission s m host model wait time) s m host model wait time a
+  each-call s (call.Start m c now) f p a = each-route s m (held s m) _ (call.Start m c now) f refl (λ h e. tt) a
+  each-call s (call.Step m now) f p a = each-route s m (held s m) _ (call.Step m now) f refl (λ h e. tt) a
+  each-call s (call.Frame now) f p a = each-frame s f now p a
+  each-call s (call.Look m) f p a = each-route s m (held s m) _ (call.Look m) f refl (λ h e. tt) a
+  each-call s (call.Remove m now) f p a = each-route s m (held s m) _ (call.Remove m now) f refl (λ h e. tt) a
 
   -- of whole lists of calls
   abbrev Put : List Told → Type 0
@@ -226,20 +226,20 @@ module _ (P : ℕ → Entry → Type 0) where
       (f : CanFrame) (time : ℕ) → In (frame f time, ok) told → accepts (source f) f ≡ true → isRead f ≡ true → readStatus f ≡ 0
       → P (source f) (entry (readId f) (readStored f))
 
-  put-first : (s : List Place) (c : Call) (told : List Told) → Put ((c, (stationCall s c) .0) ∷ told) → Frames P s c
-  put-first s (register m host model wait time) told p = tt
-  put-first s (start m c now) told p = tt
-  put-first s (step m now) told p = tt
-  put-first s (frame f now) told p = λ e. p f now (inl (ap {B = Told} (λ (x : Answer). (frame f now, x)) (sym e)))
-  put-first s (look m) told p = tt
-  put-first s (removing m now) told p = tt
+  put-first : (s : List Place) (c : Call) (f : CanFrame) (told : List Told) → Put ((record { call = c; frame = f }, (stationBy s c f) .0) ∷ told) → Frames P s c f
+  put-first s (call.Register m host model wait time) f told p = tt
+  put-first s (call.Start m c now) f told p = tt
+  put-first s (call.Step m now) f told p = tt
+  put-first s (call.Frame now) f told p = λ e. p f now (inl (ap {B = Told} (λ (x : Reply). (frame f now, x)) (sym e)))
+  put-first s (call.Look m) f told p = tt
+  put-first s (call.Remove m now) f told p = tt
 
-  each-after : (s : List Place) (cs : List Call) → Put (telling s cs) → EachAt P s → EachAt P (after s cs)
+  each-after : (s : List Place) (cs : List Asked) → Put (telling s cs) → EachAt P s → EachAt P (after s cs)
   unfolding after telling
   each-after s [] p a = a
   each-after s (c ∷ cs) p a =
       let t = (stationCall s c) .1 in
-      each-after t cs (λ f now i. p f now (inr i)) (each-call s c (put-first s c (telling t cs) p) a)
+      each-after t cs (λ f now i. p f now (inr i)) (each-call s (c .call) (c .frame) (put-first s (c .call) (c .frame) (telling t cs) p) a)
 
   each-free : (n : ℕ) → EachAt P (replicate n free)
   each-free zero = tt

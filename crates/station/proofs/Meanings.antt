@@ -25,11 +25,11 @@ use Rattle.motor.proofs.LoneOperating.{start-both, step-both, look-both}
 use Rattle.motor.proofs.LoneReceiving.{heard-both}
 use Rattle.station.specs.declared.station.Station.{Station}
 use Rattle.station.specs.Calls.{register, start, step, frame, look, remove}
-use Rattle.station.specs.Calls.{says, answered, refuses}
+use Rattle.station.specs.Calls.{says, answered, refused}
 use Rattle.station.specs.Station.{Place, held, put, place, empty, source}
-use Rattle.station.specs.Station.{movesTo, hearsTo, leaves, lone, route, admission, stationCall}
+use Rattle.station.specs.Station.{movesTo, hearsTo, leaves, loneBy, route, admission, stationBy, stationCall}
 use Rattle.station.specs.Stations.{freeMotor, newStation, indexOf, takenPlace, motorAt, atPlace, movedAt, heardAt, removedAt, registerIn, startIn, stepIn, frameIn, lookIn, removeIn}
-use Rattle.station.specs.Stations.{TakenAs, Shows, MovedAs, ToldAs, answerOf}
+use Rattle.station.specs.Stations.{TakenAs, Shows, LeavesAs, replyOf}
 use Rattle.station.proofs.Index.{free-places}
 use Rattle.station.proofs.Admitting.{by-tests}
 use Rattle.station.proofs.Places.{put-held}
@@ -69,7 +69,7 @@ hear-id (checked.Refused r) a f now = go (among (numberOf r) (14 ∷ 15 ∷ []))
 module _ (st : Station) (s : List Place) (x : Shows st s) (m : ℕ) (z : m ≡ 0 → ⊥) (e : takenPlace (st .motors) m ≡ indexOf (st .motors) m)
     (l : indexOf (st .motors) m < length (st .motors)) where
   moved-means : (a : Answered) (b : LoneAnswered) → AnsweredAs a b → a .motor .state .«motor_id» ≡ m
-      → MovedAs (movedAt st (takenPlace (st .motors) m) a) (says (b .said) (b .frame) (b .result), put s m (some (b .lone)))
+      → LeavesAs (movedAt st (takenPlace (st .motors) m) a) (says (b .said) (b .frame) (b .result), put s m (some (b .lone)))
   unfolding place
   moved-means a b w i =
       record {
@@ -78,7 +78,7 @@ module _ (st : Station) (s : List Place) (x : Shows st s) (m : ℕ) (z : m ≡ 0
       }
 
   heard-means : (a : Heard) (b : LoneHeard) → HeardAs a b → a .motor .state .«motor_id» ≡ m
-      → ToldAs (heardAt st (takenPlace (st .motors) m) a) (answered (b .said), put s m (some (b .lone)))
+      → LeavesAs (heardAt st (takenPlace (st .motors) m) a) (answered (b .said), put s m (some (b .lone)))
   unfolding place
   heard-means a b w i =
       record {
@@ -88,7 +88,7 @@ module _ (st : Station) (s : List Place) (x : Shows st s) (m : ℕ) (z : m ≡ 0
 
   -- removed, the place is free; refused, all is as it was
   removed-means : (h : Lone) → held s m ≡ some h → (k : Checked)
-      → ToldAs (removedAt k st (takenPlace (st .motors) m)) (answered k, put s m (leaves h k))
+      → LeavesAs (removedAt k st (takenPlace (st .motors) m)) (answered k, put s m (leaves h k))
   unfolding place leaves
   removed-means h q checked.Passed = record { answer = refl; station = shows-put st s x m z e l none freeMotor refl }
   removed-means h q (checked.Refused r) = record { answer = refl; station = rw (put-held s m h q) x }
@@ -100,11 +100,11 @@ heard-id m f now = hear-id _ (m .state) f now
 -- ---- each call
 
 module _ (st : Station) (s : List Place) (x : Shows st s) where
-  pub start-means : (m : ℕ) (c : Command) (now : ℕ) → MovedAs (startIn st m c now) (stationCall s (start m c now))
-  unfolding startIn atPlace stationCall route refuses lone movesTo
+  pub start-means : (m : ℕ) (c : Command) (now : ℕ) → LeavesAs (startIn st m c now) (stationCall s (start m c now))
+  unfolding startIn atPlace stationBy route refused loneBy movesTo
   start-means m c now = go (where-is st s x m)
     where
-      go : Where st s x m → MovedAs (startIn st m c now) (stationCall s (start m c now))
+      go : Where st s x m → LeavesAs (startIn st m c now) (stationCall s (start m c now))
       go (absent p q) = rw (p, q) (record { answer = refl; station = x })
       go (present p z e l h q t) =
           let y = motorAt st (takenPlace (st .motors) m) in
@@ -113,11 +113,11 @@ module _ (st : Station) (s : List Place) (x : Shows st s) where
           rw (p, q) (moved-means st s x m z e l (startOf y c now) (loneStart h c now) w
           (start-id (startSaid (y .state .clock) (y .state .operation .phase) c now) y c now ∙ t .id))
 
-  pub step-means : (m : ℕ) (now : ℕ) → MovedAs (stepIn st m now) (stationCall s (step m now))
-  unfolding stepIn atPlace stationCall route refuses lone movesTo
+  pub step-means : (m : ℕ) (now : ℕ) → LeavesAs (stepIn st m now) (stationCall s (step m now))
+  unfolding stepIn atPlace stationBy route refused loneBy movesTo
   step-means m now = go (where-is st s x m)
     where
-      go : Where st s x m → MovedAs (stepIn st m now) (stationCall s (step m now))
+      go : Where st s x m → LeavesAs (stepIn st m now) (stationCall s (step m now))
       go (absent p q) = rw (p, q) (record { answer = refl; station = x })
       go (present p z e l h q t) =
           let y = motorAt st (takenPlace (st .motors) m) in
@@ -128,11 +128,11 @@ module _ (st : Station) (s : List Place) (x : Shows st s) where
 
   -- ---- a frame
 
-  pub frame-means : (f : CanFrame) (now : ℕ) → ToldAs (frameIn st f now) (stationCall s (frame f now))
-  unfolding frameIn atPlace stationCall route refuses lone hearsTo answered
+  pub frame-means : (f : CanFrame) (now : ℕ) → LeavesAs (frameIn st f now) (stationCall s (frame f now))
+  unfolding frameIn atPlace stationBy route refused loneBy hearsTo
   frame-means f now = go (accepts (source f) f) refl (where-is st s x (source f))
     where
-      go : (b : Bool) → accepts (source f) f ≡ b → Where st s x (source f) → ToldAs (frameIn st f now) (stationCall s (frame f now))
+      go : (b : Bool) → accepts (source f) f ≡ b → Where st s x (source f) → LeavesAs (frameIn st f now) (stationCall s (frame f now))
       go false a v = rw a (record { answer = refl; station = x })
       go true a (absent p q) = rw (a, p, q) (record { answer = refl; station = x })
       go true a (present p z e l h q t) =
@@ -143,11 +143,11 @@ module _ (st : Station) (s : List Place) (x : Shows st s) where
 
   -- ---- a look
 
-  pub look-means : (m : ℕ) → (answerOf (lookIn st m), s) ≡ stationCall s (look m)
-  unfolding lookIn atPlace stationCall route refuses lone
+  pub look-means : (m : ℕ) → (replyOf (lookIn st m), s) ≡ stationCall s (look m)
+  unfolding lookIn atPlace stationBy route refused loneBy
   look-means m = go (where-is st s x m)
     where
-      go : Where st s x m → (answerOf (lookIn st m), s) ≡ stationCall s (look m)
+      go : Where st s x m → (replyOf (lookIn st m), s) ≡ stationCall s (look m)
       go (absent p q) = rw (p, q)
       go (present p z e l h q t) =
           let y = motorAt st (takenPlace (st .motors) m) in
@@ -156,11 +156,11 @@ module _ (st : Station) (s : List Place) (x : Shows st s) where
 
   -- ---- a removal
 
-  pub remove-means : (m : ℕ) (now : ℕ) → ToldAs (removeIn st m now) (stationCall s (remove m now))
-  unfolding removeIn atPlace stationCall route refuses lone answered
+  pub remove-means : (m : ℕ) (now : ℕ) → LeavesAs (removeIn st m now) (stationCall s (remove m now))
+  unfolding removeIn atPlace stationBy route refused loneBy
   remove-means m now = go (where-is st s x m)
     where
-      go : Where st s x m → ToldAs (removeIn st m now) (stationCall s (remove m now))
+      go : Where st s x m → LeavesAs (removeIn st m now) (stationCall s (remove m now))
       go (absent p q) = rw (p, q) (record { answer = refl; station = x })
       go (present p z e l h q t) =
           let y = motorAt st (takenPlace (st .motors) m) in
@@ -170,6 +170,6 @@ module _ (st : Station) (s : List Place) (x : Shows st s) where
   -- ---- a registration
 
   pub register-means : (m host : ℕ) (model : ModelNamed) (wait time : ℕ)
-      → ToldAs (registerIn st m host model wait time) (stationCall s (register m host model wait time))
-  unfolding registerIn stationCall admission
+      → LeavesAs (registerIn st m host model wait time) (stationCall s (register m host model wait time))
+  unfolding registerIn stationBy admission
   register-means m host model wait time = by-tests st s x m host model wait time (firstOf (registerNumbers m host model wait time)) refl

@@ -10,8 +10,7 @@ use Rattle.codec.specs.declared.error.Refusal.{Refusal}
 use Rattle.codec.specs.Kinds.{among}
 use Rattle.codec.specs.Refusals.{numberOf}
 use Rattle.motor.specs.Numbers.{firstOf}
-use Rattle.station.specs.Calls.{answered}
-use Rattle.station.specs.Demands.{number}
+use Rattle.station.specs.Demands.{checkedNumber}
 use Rattle.station.proofs.Places.{same-id}
 use Rattle.station.proofs.Steps.{and-true}
 
@@ -36,11 +35,7 @@ of-each p n (x ∷ xs) h e = go (eqb x n) refl (of-each p n xs (both .1))
 pub outside : (n : ℕ) (xs ys : List ℕ) → every (λ k. not (among k ys)) xs ≡ true → among n xs ≡ true → among n ys ≡ false
 outside n xs ys h e = sym (Bool·not-not (among n ys)) ∙ ap not (of-each (λ k. not (among k ys)) n xs h e)
 
--- the number of a test's answer, and of the first of several
-abbrev pub checkedNumber : Checked → ℕ
-checkedNumber checked.Passed = 0
-checkedNumber (checked.Refused r) = numberOf r
-
+-- the number of the first of several tests
 abbrev pub everyTest : (ℕ → Bool) → List (Bool × Refusal) → Bool
 everyTest p [] = p 0
 everyTest p (t ∷ ts) = p (numberOf (t .1)) && everyTest p ts
@@ -55,12 +50,3 @@ of-first p (t ∷ ts) h = go (t .0) (of-first p ts (both .1))
     go : (b : Bool) → p (checkedNumber (firstOf ts)) ≡ true → p (checkedNumber (cond b (checked.Refused (t .1)) (firstOf ts))) ≡ true
     go true ih = both .0
     go false ih = ih
-
-answered-number : (k : Checked) → number (answered k) ≡ checkedNumber k
-unfolding number answered
-answered-number checked.Passed = refl
-answered-number (checked.Refused r) = refl
-
--- the answer of a test, as an answer
-pub tested-number : (ns : List ℕ) (l : List (Bool × Refusal)) → everyTest (λ n. among n ns) l ≡ true → among (number (answered (firstOf l))) ns ≡ true
-tested-number ns l h = ap (λ (n : ℕ). among n ns) (answered-number (firstOf l)) ∙ of-first (λ n. among n ns) l h

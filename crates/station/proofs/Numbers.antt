@@ -26,11 +26,13 @@ use Rattle.motor.specs.Receive.{accepts, late, readId, frameNumbers, frameSaid}
 use Rattle.motor.specs.Readings.{lookup, room}
 use Rattle.motor.proofs.Ends.{Closed, advance-ends}
 use Rattle.motor.proofs.Stays.{running}
-use Rattle.station.specs.Calls.{Call, register, start, step, frame, look, remove}
-use Rattle.station.specs.Calls.{no, says, refuses}
-use Rattle.station.specs.Station.{Place, held, full, isSome, movesTo, hearsTo, lone, route, admission, enter as takesIn, admit, source, stationCall}
-use Rattle.station.specs.Demands.{number, numbersOf}
-use Rattle.station.proofs.NumberLists.{every, of-each, outside, checkedNumber, of-first, tested-number}
+use Rattle.station.specs.declared.call.Asked.{Asked}
+use Rattle.station.specs.declared.call.Call.{Call}
+use Rattle.station.specs.declared.call.Call.the-variants as call
+use Rattle.station.specs.Calls.{start, frame, no, says, refused, Reply}
+use Rattle.station.specs.Station.{Place, held, full, isSome, movesTo, hearsTo, loneBy, route, admission, enter as takesIn, admit, source, toSource, stationBy, stationCall}
+use Rattle.station.specs.Demands.{checkedNumber, number, numbersOf}
+use Rattle.station.proofs.NumberLists.{every, of-each, outside, of-first}
 use Rattle.station.proofs.Starts.{startNumbers, start-number}
 
 -- ---- a step: 7 and 21, then the numbers by which an operation fails
@@ -39,7 +41,7 @@ abbrev stepNumbers : List ℕ
 stepNumbers = 0 ∷ 6 ∷ 7 ∷ 21 ∷ 16 ∷ 17 ∷ 18 ∷ 20 ∷ []
 
 closed-number : (w : Said) (op : Operation) (x : Effect) (f : CanFrame) (b : List ℕ) → Closed w op x → among (number (says w f b)) stepNumbers ≡ true
-unfolding number among
+unfolding among
 closed-number (said.Sent due) op x f b h = refl
 closed-number (said.Waiting due) op x f b h = refl
 closed-number (said.Finished r) op x f b h = refl
@@ -47,7 +49,7 @@ closed-number (said.FinishedWith r) op x f b h = refl
 closed-number (said.Refused r) op x f b h = of-each (λ n. among n stepNumbers) (numberOf r) (16 ∷ 17 ∷ 18 ∷ 20 ∷ []) refl (h .0)
 
 step-number : (h : Lone) (now : ℕ) → among (number ((movesTo (loneStep h now)) .0)) stepNumbers ≡ true
-unfolding movesTo number among
+unfolding movesTo among
 step-number h now = go (stepSaid (h .state .clock) p now) refl (of-first (λ n. among n stepNumbers) tests refl)
   where
     p : Phase
@@ -67,47 +69,49 @@ step-number h now = go (stepSaid (h .state .clock) p now) refl (of-first (λ n. 
 
 -- ---- the six calls
 
-route-number : (ns : List ℕ) (s : List Place) (m : ℕ) (o : Option Lone) (n : Refusal) (c : Call) → among (number (refuses c n)) ns ≡ true
-    → ((h : Lone) → among (number ((lone h c) .0)) ns ≡ true) → among (number ((route s m o n c) .0)) ns ≡ true
+route-number : (ns : List ℕ) (s : List Place) (m : ℕ) (o : Option Lone) (r : Reply) (visit : Lone → Reply × Option Lone) → among (number r) ns ≡ true
+    → ((h : Lone) → among (number ((visit h) .0)) ns ≡ true) → among (number ((route s m o r visit) .0)) ns ≡ true
 unfolding route
-route-number ns s m none n c a b = a
-route-number ns s m (some h) n c a b = b h
+route-number ns s m none r visit a b = a
+route-number ns s m (some h) r visit a b = b h
 
 admit-number : (k : Checked) (s : List Place) (m host : ℕ) (model : ModelNamed) (wait time : ℕ) (ns : List ℕ)
     → among 0 ns ≡ true → among 3 ns ≡ true → among (checkedNumber k) ns ≡ true → among (number ((admit k s m host model wait time) .0)) ns ≡ true
-unfolding admit takesIn number
+unfolding admit takesIn
 admit-number checked.Passed s m host (named.Known model) wait time ns a b e = a
 admit-number checked.Passed s m host named.Unknown wait time ns a b e = b
 admit-number (checked.Refused r) s m host model wait time ns a b e = e
 
-pub call-numbers : (s : List Place) (c : Call) → among (number ((stationCall s c) .0)) (numbersOf c) ≡ true
-unfolding stationCall numbersOf number refuses lone hearsTo hears frameSaid admission among
-call-numbers s (register m host model wait time) =
-    admit-number (admission s m host model wait time) s m host model wait time (numbersOf (register m host model wait time)) refl refl
-    (of-first (λ n. among n (numbersOf (register m host model wait time)))
+numbers-by : (s : List Place) (c : Call) (f : CanFrame) → among (number ((stationBy s c f) .0)) (numbersOf c) ≡ true
+unfolding stationBy numbersOf refused loneBy hearsTo hears frameSaid admission among
+numbers-by s (call.Register m host model wait time) f =
+    admit-number (admission s m host model wait time) s m host model wait time (numbersOf (call.Register m host model wait time)) refl refl
+    (of-first (λ n. among n (numbersOf (call.Register m host model wait time)))
     (registerNumbers m host model wait time ++ ((isSome (held s m), refusal.IdRegistered) ∷ (full s, refusal.StationFull) ∷ [])) refl)
-call-numbers s (start m c now) = route-number startNumbers s m (held s m) refusal.IdNotRegistered (start m c now) refl (λ h. start-number h c now)
-call-numbers s (step m now) = route-number stepNumbers s m (held s m) refusal.IdNotRegistered (step m now) refl (λ h. step-number h now)
-call-numbers s (frame f now) = go (accepts (source f) f)
+numbers-by s (call.Start m c now) f = route-number startNumbers s m (held s m) _ _ refl (λ h. start-number h c now)
+numbers-by s (call.Step m now) f = route-number stepNumbers s m (held s m) _ _ refl (λ h. step-number h now)
+numbers-by s (call.Frame now) f = go (accepts (source f) f)
   where
     ns : List ℕ
     ns = 0 ∷ 13 ∷ 7 ∷ 14 ∷ 15 ∷ []
 
-    go : (b : Bool)
-        → among (number ((cond b (route s (source f) (held s (source f)) refusal.FrameNotAccepted (frame f now)) (no refusal.FrameNotAccepted, s)) .0)) ns ≡ true
+    go : (b : Bool) → among (number ((cond b (toSource s f now) (no refusal.FrameNotAccepted, s)) .0)) ns ≡ true
     go true =
-        route-number ns s (source f) (held s (source f)) refusal.FrameNotAccepted (frame f now) refl
-        (λ h. tested-number ns (frameNumbers (h .state) f now (not (room (readId f) (h .readings)))) refl)
+        route-number ns s (source f) (held s (source f)) _ _ refl
+        (λ h. of-first (λ n. among n ns) (frameNumbers (h .state) f now (not (room (readId f) (h .readings)))) refl)
     go false = refl
-call-numbers s (look m) = route-number (0 ∷ 6 ∷ []) s m (held s m) refusal.IdNotRegistered (look m) refl (λ h. refl)
-call-numbers s (remove m now) =
-    route-number (0 ∷ 6 ∷ 7 ∷ 8 ∷ []) s m (held s m) refusal.IdNotRegistered (remove m now) refl
-    (λ h. tested-number (0 ∷ 6 ∷ 7 ∷ 8 ∷ [])
+numbers-by s (call.Look m) f = route-number (0 ∷ 6 ∷ []) s m (held s m) _ _ refl (λ h. refl)
+numbers-by s (call.Remove m now) f =
+    route-number (0 ∷ 6 ∷ 7 ∷ 8 ∷ []) s m (held s m) _ _ refl
+    (λ h. of-first (λ n. among n (0 ∷ 6 ∷ 7 ∷ 8 ∷ []))
     ((late (h .state .clock) now, refusal.TimeOutOfRange) ∷ (not (isIdle (h .state .operation .phase)), refusal.OperationRunning) ∷ []) refl)
 
+pub call-numbers : (s : List Place) (a : Asked) → among (number ((stationCall s a) .0)) (numbersOf (a .call)) ≡ true
+call-numbers s a = numbers-by s (a .call) (a .frame)
+
 -- and so none of other numbers
-none-of : (s : List Place) (c : Call) (ys : List ℕ) → every (λ k. not (among k ys)) (numbersOf c) ≡ true → among (number ((stationCall s c) .0)) ys ≡ false
-none-of s c ys h = outside (number ((stationCall s c) .0)) (numbersOf c) ys h (call-numbers s c)
+none-of : (s : List Place) (a : Asked) (ys : List ℕ) → every (λ k. not (among k ys)) (numbersOf (a .call)) ≡ true → among (number ((stationCall s a) .0)) ys ≡ false
+none-of s a ys h = outside (number ((stationCall s a) .0)) (numbersOf (a .call)) ys h (call-numbers s a)
 
 pub start-none : (s : List Place) (m : ℕ) (c : Command) (now : ℕ)
     → among (number ((stationCall s (start m c now)) .0)) (14 ∷ 15 ∷ 16 ∷ 17 ∷ 18 ∷ 20 ∷ 21 ∷ []) ≡ false

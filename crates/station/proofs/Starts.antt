@@ -42,9 +42,9 @@ use Rattle.motor.proofs.GoodNodes.{Good, begins-good}
 use Rattle.motor.proofs.Stays.{argued-passed}
 use Rattle.station.specs.Calls.{says}
 use Rattle.station.specs.Station.{movesTo}
-use Rattle.station.specs.Demands.{number}
+use Rattle.station.specs.Demands.{checkedNumber, number}
 use Rattle.station.proofs.Steps.{refused-passed}
-use Rattle.station.proofs.NumberLists.{checkedNumber, of-first}
+use Rattle.station.proofs.NumberLists.{of-first}
 
 abbrev pub startNumbers : List ℕ
 startNumbers = 0 ∷ 6 ∷ 7 ∷ 8 ∷ 9 ∷ 2 ∷ 19 ∷ 12 ∷ 10 ∷ 11 ∷ []
@@ -58,7 +58,6 @@ Goes (said.FinishedWith r) = Unit {0}
 Goes (said.Refused r) = ⊥
 
 goes-number : (w : Said) (f : CanFrame) (b : List ℕ) → Goes w → number (says w f b) ≡ 0
-unfolding number
 goes-number (said.Sent due) f b g = refl
 goes-number (said.Waiting due) f b g = refl
 goes-number (said.Finished r) f b g = refl
@@ -154,7 +153,7 @@ begun (command.GetParameterF32 id timeout) = (refl, refl)
 begun (command.GetParameterI8 id timeout) = (refl, refl)
 
 pub start-number : (h : Lone) (c : Command) (now : ℕ) → among (number ((movesTo (loneStart h c now)) .0)) startNumbers ≡ true
-unfolding movesTo number among
+unfolding movesTo among
 start-number h c now = go (startSaid clock p c now) refl (tested (admittedOf clock p c now) (of-first (λ n. among n startNumbers) tests refl))
   where
     clock : ℕ

@@ -18,11 +18,14 @@ use Rattle.motor.specs.Calls.{registerNumbers}
 use Rattle.motor.specs.Lone.{Lone, loneNew, loneAgain, loneRemoval}
 use Rattle.motor.specs.Numbers.{firstOf}
 use Rattle.motor.specs.Receive.{accepts, frameType, frameExtra}
-use Rattle.station.specs.Calls.{Call, register, start, step, frame, look, remove}
-use Rattle.station.specs.Calls.{Answer, ok, no, answered}
+use Rattle.station.specs.declared.call.Answer.{Answer}
+use Rattle.station.specs.declared.call.Asked.{Asked}
+use Rattle.station.specs.declared.call.Call.{Call}
+use Rattle.station.specs.declared.call.Call.the-variants as call
+use Rattle.station.specs.Calls.{Reply, ok, no, answered}
 use Rattle.station.specs.Station.{Place, held, full, isSome, Distinct}
-use Rattle.station.specs.Station.{movesTo, hearsTo, leaves, lone, route, admission, enter, admit, source, stationCall}
-use Rattle.station.specs.History.{mine, removes, isOk}
+use Rattle.station.specs.Station.{movesTo, hearsTo, leaves, loneBy, lone, route, admission, enter, admit, source, toSource, stationBy, stationCall}
+use Rattle.station.specs.History.{mineBy, mine, removes, isOk}
 use Rattle.station.specs.Demands.{Given, registers, made}
 use Rattle.station.proofs.Places.{same-id, own-id, held-put-other, held-add-other, held-add, held-put, distinct-put, distinct-add, length-put, length-add}
 
@@ -87,10 +90,14 @@ source-accepts m f e a = go (eqb (source f) m) refl
 
 -- ---- a call that isn't m's leaves what is held for m
 
-route-other : (s : List Place) (i m : ℕ) (o : Option Lone) (n : Refusal) (c : Call) → eqb i m ≡ false → held ((route s i o n c) .1) m ≡ held s m
+-- what a motor does with a call that goes to it
+abbrev Visit : Type 0
+Visit = Lone → Reply × Option Lone
+
+route-other : (s : List Place) (i m : ℕ) (o : Option Lone) (r : Reply) (visit : Visit) → eqb i m ≡ false → held ((route s i o r visit) .1) m ≡ held s m
 unfolding route
-route-other s i m none n c e = refl
-route-other s i m (some h) n c e = held-put-other s i m ((lone h c) .1) e
+route-other s i m none r visit e = refl
+route-other s i m (some h) r visit e = held-put-other s i m ((visit h) .1) e
 
 enter-other : (s : List Place) (i m host : ℕ) (model : ModelNamed) (wait time : ℕ) → eqb i m ≡ false
     → held ((enter s i host model wait time) .1) m ≡ held s m
@@ -104,87 +111,100 @@ unfolding admit
 admit-other checked.Passed s i m host model wait time e = enter-other s i m host model wait time e
 admit-other (checked.Refused r) s i m host model wait time e = refl
 
-pub other : (s : List Place) (m : ℕ) (c : Call) → mine m c ≡ false → held ((stationCall s c) .1) m ≡ held s m
-unfolding mine stationCall
-other s m (register i host model wait time) e = admit-other (admission s i host model wait time) s i m host model wait time e
-other s m (start i c now) e = route-other s i m (held s i) refusal.IdNotRegistered (start i c now) e
-other s m (step i now) e = route-other s i m (held s i) refusal.IdNotRegistered (step i now) e
-other s m (frame f now) e = go (accepts (source f) f) refl
+other-by : (s : List Place) (m : ℕ) (c : Call) (f : CanFrame) → mineBy m c f ≡ false → held ((stationBy s c f) .1) m ≡ held s m
+unfolding mineBy stationBy
+other-by s m (call.Register i host model wait time) f e = admit-other (admission s i host model wait time) s i m host model wait time e
+other-by s m (call.Start i c now) f e = route-other s i m (held s i) _ _ e
+other-by s m (call.Step i now) f e = route-other s i m (held s i) _ _ e
+other-by s m (call.Frame now) f e = go (accepts (source f) f) refl
   where
-    go : (b : Bool) → accepts (source f) f ≡ b → held ((stationCall s (frame f now)) .1) m ≡ held s m
-    go true p = rw p (route-other s (source f) m (held s (source f)) refusal.FrameNotAccepted (frame f now) (source-accepts m f e p))
-    go false p = rw p
-other s m (look i) e = route-other s i m (held s i) refusal.IdNotRegistered (look i) e
-other s m (remove i now) e = route-other s i m (held s i) refusal.IdNotRegistered (remove i now) e
+    go : (b : Bool) → accepts (source f) f ≡ b → held ((cond b (toSource s f now) (no refusal.FrameNotAccepted, s)) .1) m ≡ held s m
+    go true p = route-other s (source f) m (held s (source f)) _ _ (source-accepts m f e p)
+    go false p = refl
+other-by s m (call.Look i) f e = route-other s i m (held s i) _ _ e
+other-by s m (call.Remove i now) f e = route-other s i m (held s i) _ _ e
 
--- ---- a call that is m's has the lone motor's answer, and leaves what the lone motor holds
+pub other : (s : List Place) (m : ℕ) (a : Asked) → mine m a ≡ false → held ((stationCall s a) .1) m ≡ held s m
+other s m a = other-by s m (a .call) (a .frame)
 
-abbrev pub LikeLone : ℕ → Lone → Call → Answer × List Place → Type 0
-LikeLone m h c r = (r .0 ≡ (lone h c) .0) × (held (r .1) m ≡ (lone h c) .1)
+-- ---- a call that is m's has the lone motor's reply, and leaves what the lone motor holds
 
-route-own : (s : List Place) (i m : ℕ) (h : Lone) (n : Refusal) (c : Call) → Distinct s → held s m ≡ some h → i ≡ m
-    → LikeLone m h c (route s i (held s i) n c)
+abbrev pub LikeLone : ℕ → Reply × Option Lone → Reply × List Place → Type 0
+LikeLone m l r = (r .0 ≡ l .0) × (held (r .1) m ≡ l .1)
+
+route-own : (s : List Place) (i m : ℕ) (h : Lone) (r : Reply) (visit : Visit) → Distinct s → held s m ≡ some h → i ≡ m
+    → LikeLone m (visit h) (route s i (held s i) r visit)
 unfolding route
-route-own s i m h n c d e q = rw (q, e) (refl, held-put s m h ((lone h c) .1) d e)
+route-own s i m h r visit d e q = rw (q, e) (refl, held-put s m h ((visit h) .1) d e)
 
 -- registration again: 5, where none of 1, 2, 3, 9, 7 applies
 register-own : (s : List Place) (m : ℕ) (h : Lone) (host : ℕ) (model : ModelNamed) (wait time : ℕ) → held s m ≡ some h
-    → LikeLone m h (register m host model wait time) (admit (admission s m host model wait time) s m host model wait time)
-unfolding lone admit admission answered isSome
+    → LikeLone m (answered (loneAgain m host model wait time), some h) (admit (admission s m host model wait time) s m host model wait time)
+unfolding admit admission isSome
 register-own s m h host model wait time e =
     let f = first-stops (registerNumbers m host model wait time) ((full s, refusal.StationFull) ∷ []) refusal.IdRegistered in
     subst (λ (k : Checked). ((admit k s m host model wait time) .0 ≡ answered (loneAgain m host model wait time)) × (held ((admit k s m host model wait time) .1) m ≡ some h))
     (sym (ap (λ (o : Option Lone). firstOf (registerNumbers m host model wait time ++ ((isSome o, refusal.IdRegistered) ∷ (full s, refusal.StationFull) ∷ []))) e ∙ f .1))
     (sym (ap answered (f .2)), e)
 
-pub own-call : (s : List Place) (m : ℕ) (h : Lone) (c : Call) → Distinct s → held s m ≡ some h → mine m c ≡ true
-    → LikeLone m h c (stationCall s c)
-unfolding mine stationCall
-own-call s m h (register i host model wait time) d e q =
-    subst (λ (j : ℕ). LikeLone m h (register j host model wait time) (admit (admission s j host model wait time) s j host model wait time))
+own-by : (s : List Place) (m : ℕ) (h : Lone) (c : Call) (f : CanFrame) → Distinct s → held s m ≡ some h → mineBy m c f ≡ true
+    → LikeLone m (loneBy h c f) (stationBy s c f)
+unfolding mineBy loneBy stationBy
+own-by s m h (call.Register i host model wait time) f d e q =
+    subst (λ (j : ℕ). LikeLone m (answered (loneAgain j host model wait time), some h) (admit (admission s j host model wait time) s j host model wait time))
     (sym (same-id i m q))
     (register-own s m h host model wait time e)
-own-call s m h (start i c now) d e q = route-own s i m h refusal.IdNotRegistered (start i c now) d e (same-id i m q)
-own-call s m h (step i now) d e q = route-own s i m h refusal.IdNotRegistered (step i now) d e (same-id i m q)
-own-call s m h (frame f now) d e q =
+own-by s m h (call.Start i c now) f d e q = route-own s i m h _ _ d e (same-id i m q)
+own-by s m h (call.Step i now) f d e q = route-own s i m h _ _ d e (same-id i m q)
+own-by s m h (call.Frame now) f d e q =
     let a = accepts-source m f q in
-    rw (a .1) (route-own s (source f) m h refusal.FrameNotAccepted (frame f now) d e (a .0))
-own-call s m h (look i) d e q = route-own s i m h refusal.IdNotRegistered (look i) d e (same-id i m q)
-own-call s m h (remove i now) d e q = route-own s i m h refusal.IdNotRegistered (remove i now) d e (same-id i m q)
+    rw (a .1) (route-own s (source f) m h _ _ d e (a .0))
+own-by s m h (call.Look i) f d e q = route-own s i m h _ _ d e (same-id i m q)
+own-by s m h (call.Remove i now) f d e q = route-own s i m h _ _ d e (same-id i m q)
+
+pub own-call : (s : List Place) (m : ℕ) (h : Lone) (a : Asked) → Distinct s → held s m ≡ some h → mine m a ≡ true
+    → LikeLone m (lone h a) (stationCall s a)
+own-call s m h a = own-by s m h (a .call) (a .frame)
 
 -- the lone motor ends by a removal that isn't refused, and by nothing else
 abbrev pub isNone : Option Lone → Bool
 isNone none = true
 isNone (some a) = false
 
-pub ends : (m : ℕ) (h : Lone) (c : Call) → mine m c ≡ true → removes m c ((lone h c) .0) ≡ isNone ((lone h c) .1)
-unfolding mine removes lone movesTo hearsTo isOk answered leaves
-ends m h (register i host model wait time) q = refl
-ends m h (start i c now) q = refl
-ends m h (step i now) q = refl
-ends m h (frame f now) q = refl
-ends m h (look i) q = refl
-ends m h (remove i now) q = rw q (go (loneRemoval h now))
+ends-by : (m : ℕ) (h : Lone) (c : Call) (f : CanFrame) → mineBy m c f ≡ true → removes m c ((loneBy h c f) .0) ≡ isNone ((loneBy h c f) .1)
+unfolding mineBy removes loneBy movesTo hearsTo isOk leaves
+ends-by m h (call.Register i host model wait time) f q = refl
+ends-by m h (call.Start i c now) f q = refl
+ends-by m h (call.Step i now) f q = refl
+ends-by m h (call.Frame now) f q = refl
+ends-by m h (call.Look i) f q = refl
+ends-by m h (call.Remove i now) f q = rw q (go (loneRemoval h now))
   where
-    go : (k : Checked) → isOk (answered k) ≡ isNone (leaves h k)
+    go : (k : Checked) → isOk ((answered k) .replied .answer) ≡ isNone (leaves h k)
     go checked.Passed = refl
     go (checked.Refused r) = refl
 
-pub stays : (m : ℕ) (c : Call) (a : Answer) → mine m c ≡ false → removes m c a ≡ false
-unfolding mine removes
-stays m (register i host model wait time) a q = refl
-stays m (start i c now) a q = refl
-stays m (step i now) a q = refl
-stays m (frame f now) a q = refl
-stays m (look i) a q = refl
-stays m (remove i now) a q = rw q
+pub ends : (m : ℕ) (h : Lone) (a : Asked) → mine m a ≡ true → removes m (a .call) ((lone h a) .0) ≡ isNone ((lone h a) .1)
+ends m h a = ends-by m h (a .call) (a .frame)
+
+stays-by : (m : ℕ) (c : Call) (f : CanFrame) (r : Reply) → mineBy m c f ≡ false → removes m c r ≡ false
+unfolding mineBy removes
+stays-by m (call.Register i host model wait time) f r q = refl
+stays-by m (call.Start i c now) f r q = refl
+stays-by m (call.Step i now) f r q = refl
+stays-by m (call.Frame now) f r q = refl
+stays-by m (call.Look i) f r q = refl
+stays-by m (call.Remove i now) f r q = rw q
+
+pub stays : (m : ℕ) (a : Asked) (r : Reply) → mine m a ≡ false → removes m (a .call) r ≡ false
+stays m a = stays-by m (a .call) (a .frame)
 
 -- ---- the ids stay different, whatever the call
 
-route-distinct : (s : List Place) (i : ℕ) (o : Option Lone) (n : Refusal) (c : Call) → Distinct s → Distinct ((route s i o n c) .1)
+route-distinct : (s : List Place) (i : ℕ) (o : Option Lone) (r : Reply) (visit : Visit) → Distinct s → Distinct ((route s i o r visit) .1)
 unfolding route
-route-distinct s i none n c d = d
-route-distinct s i (some h) n c d = distinct-put s i ((lone h c) .1) d
+route-distinct s i none r visit d = d
+route-distinct s i (some h) r visit d = distinct-put s i ((visit h) .1) d
 
 enter-distinct : (s : List Place) (i host : ℕ) (model : ModelNamed) (wait time : ℕ) → Distinct s → held s i ≡ none
     → Distinct ((enter s i host model wait time) .1)
@@ -200,33 +220,35 @@ passes s i host model wait time e =
     let p = first-passes (registerNumbers i host model wait time) (isSome (held s i)) (full s) refusal.IdRegistered refusal.StationFull e in
     (none-of (held s i) (p .0), p .1)
 
-pub call-distinct : (s : List Place) (c : Call) → Distinct s → Distinct ((stationCall s c) .1)
-unfolding stationCall admit
-call-distinct s (register i host model wait time) d = go (admission s i host model wait time) refl
+distinct-by : (s : List Place) (c : Call) (f : CanFrame) → Distinct s → Distinct ((stationBy s c f) .1)
+unfolding stationBy admit
+distinct-by s (call.Register i host model wait time) f d = go (admission s i host model wait time) refl
   where
     go : (k : Checked) → admission s i host model wait time ≡ k → Distinct ((admit k s i host model wait time) .1)
     go checked.Passed e = enter-distinct s i host model wait time d (passes s i host model wait time e .0)
     go (checked.Refused r) e = d
-call-distinct s (start i c now) d = route-distinct s i (held s i) refusal.IdNotRegistered (start i c now) d
-call-distinct s (step i now) d = route-distinct s i (held s i) refusal.IdNotRegistered (step i now) d
-call-distinct s (frame f now) d = go (accepts (source f) f)
+distinct-by s (call.Start i c now) f d = route-distinct s i (held s i) _ _ d
+distinct-by s (call.Step i now) f d = route-distinct s i (held s i) _ _ d
+distinct-by s (call.Frame now) f d = go (accepts (source f) f)
   where
-    go : (b : Bool)
-        → Distinct ((cond b (route s (source f) (held s (source f)) refusal.FrameNotAccepted (frame f now)) (no refusal.FrameNotAccepted, s)) .1)
-    go true = route-distinct s (source f) (held s (source f)) refusal.FrameNotAccepted (frame f now) d
+    go : (b : Bool) → Distinct ((cond b (toSource s f now) (no refusal.FrameNotAccepted, s)) .1)
+    go true = route-distinct s (source f) (held s (source f)) _ _ d
     go false = d
-call-distinct s (look i) d = route-distinct s i (held s i) refusal.IdNotRegistered (look i) d
-call-distinct s (remove i now) d = route-distinct s i (held s i) refusal.IdNotRegistered (remove i now) d
+distinct-by s (call.Look i) f d = route-distinct s i (held s i) _ _ d
+distinct-by s (call.Remove i now) f d = route-distinct s i (held s i) _ _ d
+
+pub call-distinct : (s : List Place) (a : Asked) → Distinct s → Distinct ((stationCall s a) .1)
+call-distinct s a = distinct-by s (a .call) (a .frame)
 
 -- ---- a registration that isn't refused holds a new motor; one that passes the tests isn't refused
 
 pub no-ok : {A : Type 0} (r : Refusal) → no r ≡ ok → A
 unfolding isOk
-no-ok {A} r e = absurd (true≢false (sym (ap isOk e)))
+no-ok {A} r e = absurd (true≢false (sym (ap (λ (x : Reply). isOk (x .replied .answer)) e)))
 
 pub admitted : (s : List Place) (m : ℕ) (r : Given) → (stationCall s (registers m r)) .0 ≡ ok
     → held ((stationCall s (registers m r)) .1) m ≡ some (made m r)
-unfolding stationCall registers admit enter made
+unfolding stationBy registers admit enter made
 admitted s m r = go (admission s m (r .host) (named.Known (r .model)) (r .wait) (r .time)) refl
   where
     go : (k : Checked) → admission s m (r .host) (named.Known (r .model)) (r .wait) (r .time) ≡ k
@@ -239,15 +261,15 @@ admitted s m r = go (admission s m (r .host) (named.Known (r .model)) (r .wait) 
 
 pub opens : (s : List Place) (m : ℕ) (r : Given) → admission s m (r .host) (named.Known (r .model)) (r .wait) (r .time) ≡ checked.Passed
     → (stationCall s (registers m r)) .0 ≡ ok
-unfolding stationCall registers admit enter
+unfolding stationBy registers admit enter
 opens s m r e = rw e
 
 -- ---- the places stay as many
 
-route-length : (s : List Place) (i : ℕ) (o : Option Lone) (n : Refusal) (c : Call) → length ((route s i o n c) .1) ≡ length s
+route-length : (s : List Place) (i : ℕ) (o : Option Lone) (r : Reply) (visit : Visit) → length ((route s i o r visit) .1) ≡ length s
 unfolding route
-route-length s i none n c = refl
-route-length s i (some h) n c = length-put s i ((lone h c) .1)
+route-length s i none r visit = refl
+route-length s i (some h) r visit = length-put s i ((visit h) .1)
 
 enter-length : (s : List Place) (i host : ℕ) (model : ModelNamed) (wait time : ℕ) → length ((enter s i host model wait time) .1) ≡ length s
 unfolding enter
@@ -260,16 +282,18 @@ unfolding admit
 admit-length checked.Passed s i host model wait time = enter-length s i host model wait time
 admit-length (checked.Refused r) s i host model wait time = refl
 
-pub call-length : (s : List Place) (c : Call) → length ((stationCall s c) .1) ≡ length s
-unfolding stationCall
-call-length s (register i host model wait time) = admit-length (admission s i host model wait time) s i host model wait time
-call-length s (start i c now) = route-length s i (held s i) refusal.IdNotRegistered (start i c now)
-call-length s (step i now) = route-length s i (held s i) refusal.IdNotRegistered (step i now)
-call-length s (frame f now) = go (accepts (source f) f)
+length-by : (s : List Place) (c : Call) (f : CanFrame) → length ((stationBy s c f) .1) ≡ length s
+unfolding stationBy
+length-by s (call.Register i host model wait time) f = admit-length (admission s i host model wait time) s i host model wait time
+length-by s (call.Start i c now) f = route-length s i (held s i) _ _
+length-by s (call.Step i now) f = route-length s i (held s i) _ _
+length-by s (call.Frame now) f = go (accepts (source f) f)
   where
-    go : (b : Bool)
-        → length ((cond b (route s (source f) (held s (source f)) refusal.FrameNotAccepted (frame f now)) (no refusal.FrameNotAccepted, s)) .1) ≡ length s
-    go true = route-length s (source f) (held s (source f)) refusal.FrameNotAccepted (frame f now)
+    go : (b : Bool) → length ((cond b (toSource s f now) (no refusal.FrameNotAccepted, s)) .1) ≡ length s
+    go true = route-length s (source f) (held s (source f)) _ _
     go false = refl
-call-length s (look i) = route-length s i (held s i) refusal.IdNotRegistered (look i)
-call-length s (remove i now) = route-length s i (held s i) refusal.IdNotRegistered (remove i now)
+length-by s (call.Look i) f = route-length s i (held s i) _ _
+length-by s (call.Remove i now) f = route-length s i (held s i) _ _
+
+pub call-length : (s : List Place) (a : Asked) → length ((stationCall s a) .1) ≡ length s
+call-length s a = length-by s (a .call) (a .frame)

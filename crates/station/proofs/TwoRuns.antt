@@ -7,7 +7,7 @@ use Prim.Native.Nat.{ℕ, zero, suc, _≤_}
 use native.Mathlib.Nat.{le-of-suc-le-suc, not-suc-le-zero}
 use lib.ListN.{length, take}
 use Rattle.motor.specs.Lone.{Lone}
-use Rattle.station.specs.Calls.{Call}
+use Rattle.station.specs.declared.call.Asked.{Asked}
 use Rattle.station.specs.Station.{Place, empty, held, Distinct, lone, stationCall}
 use Rattle.station.specs.History.{Told, mine, ofM, after, removes, story, own, history, alone, holds}
 use Rattle.station.specs.Demands.{Given, registers, made, Run, at, since, AsLone, Same, Demand3}
@@ -15,34 +15,34 @@ use Rattle.station.proofs.Places.{distinct-free}
 use Rattle.station.proofs.Steps.{other, own-call, isNone, ends, stays, call-distinct, call-length, admitted, opens}
 
 -- the ids differ after any list of calls
-pub after-distinct : (s : List Place) (cs : List Call) → Distinct s → Distinct (after s cs)
+pub after-distinct : (s : List Place) (cs : List Asked) → Distinct s → Distinct (after s cs)
 unfolding after
 after-distinct s [] d = d
 after-distinct s (c ∷ cs) d = after-distinct ((stationCall s c) .1) cs (call-distinct s c d)
 
-after-length : (s : List Place) (cs : List Call) → length (after s cs) ≡ length s
+after-length : (s : List Place) (cs : List Asked) → length (after s cs) ≡ length s
 unfolding after
 after-length s [] = refl
 after-length s (c ∷ cs) = after-length ((stationCall s c) .1) cs ∙ call-length s c
 
-eight : (cs : List Call) → (length (after empty cs) ≡ 8) × Distinct (after empty cs)
+eight : (cs : List Asked) → (length (after empty cs) ≡ 8) × Distinct (after empty cs)
 unfolding empty
 eight cs = (after-length empty cs, after-distinct empty cs (distinct-free 8))
 
-alone-none : (cs : List Call) → alone none cs ≡ []
+alone-none : (cs : List Asked) → alone none cs ≡ []
 unfolding alone
 alone-none [] = refl
 alone-none (c ∷ cs) = refl
 
 -- the lone motor's story again from its calls
-alone-again : (o : Option Lone) (cs : List Call) → alone o (map (λ (x : Told). x .0) (alone o cs)) ≡ alone o cs
+alone-again : (o : Option Lone) (cs : List Asked) → alone o (map (λ (x : Told). x .0) (alone o cs)) ≡ alone o cs
 unfolding alone
 alone-again o [] = refl
 alone-again none (c ∷ cs) = refl
 alone-again (some h) (c ∷ cs) = ap {B = List Told} (λ k. (c, (lone h c) .0) ∷ k) (alone-again ((lone h c) .1) cs)
 
 -- m's answers are the lone motor's
-answers : (m : ℕ) (cs : List Call) (s : List Place) (h : Lone) → Distinct s → held s m ≡ some h
+answers : (m : ℕ) (cs : List Asked) (s : List Place) (h : Lone) → Distinct s → held s m ≡ some h
     → own m (story m s cs) ≡ alone (some h) (ofM m cs)
 unfolding story own ofM alone
 answers m [] s h d e = refl
@@ -68,7 +68,7 @@ answers m (c ∷ cs) s h d e = go (mine m c) refl (answers m cs)
     go false p ih = rw (p, stays m c _ p) (ih s′ h d′ (other s m c p ∙ e))
 
 -- and so is what is held for it, after any k calls to its removal or the end
-held-at : (m : ℕ) (cs : List Call) (k : ℕ) (s : List Place) (h : Lone) → Distinct s → held s m ≡ some h
+held-at : (m : ℕ) (cs : List Asked) (k : ℕ) (s : List Place) (h : Lone) → Distinct s → held s m ≡ some h
     → k ≤ length (story m s cs) → held (after s (take k cs)) m ≡ holds (some h) (ofM m (take k cs))
 unfolding story ofM holds after
 held-at m cs zero s h d e l = e
@@ -85,7 +85,7 @@ held-at m (c ∷ cs) (suc k) s h d e l = go (mine m c) refl (held-at m cs k)
     IH = (s : List Place) (h : Lone) → Distinct s → held s m ≡ some h
         → k ≤ length (story m s cs) → held (after s (take k cs)) m ≡ holds (some h) (ofM m (take k cs))
 
-    short : k ≤ length (cond {A = List Told} (removes m c ((stationCall s c) .0)) [] (story m s′ cs))
+    short : k ≤ length (cond {A = List Told} (removes m (c .call) ((stationCall s c) .0)) [] (story m s′ cs))
     short = le-of-suc-le-suc l
 
     gone : (k : ℕ) → k ≤ 0 → held s′ m ≡ none → held (after s′ (take k cs)) m ≡ holds none (ofM m (take k cs))
@@ -104,13 +104,13 @@ held-at m (c ∷ cs) (suc k) s h d e l = go (mine m c) refl (held-at m cs k)
     go false p ih = rw p (ih s′ h d′ (other s m c p ∙ e) (rw (stays m c ((stationCall s c) .0) p) at short))
 
 -- a story has the calls of its list, in order, as far as it goes
-story-calls : (m : ℕ) (cs : List Call) (k : ℕ) (s : List Place) → k ≤ length (story m s cs)
+story-calls : (m : ℕ) (cs : List Asked) (k : ℕ) (s : List Place) → k ≤ length (story m s cs)
     → ofM m (take k cs) ≡ history m (take k (story m s cs))
 unfolding story ofM own history
 story-calls m cs zero s l = refl
 story-calls m [] (suc k) s l = refl
 story-calls m (c ∷ cs) (suc k) s l =
-    go (mine m c) refl (end k (removes m c ((stationCall s c) .0)) (le-of-suc-le-suc l) (story-calls m cs k s′))
+    go (mine m c) refl (end k (removes m (c .call) ((stationCall s c) .0)) (le-of-suc-le-suc l) (story-calls m cs k s′))
   where
     s′ : List Place
     s′ = (stationCall s c) .1
@@ -124,9 +124,9 @@ story-calls m (c ∷ cs) (suc k) s l =
     end (suc k) true l ih = absurd (not-suc-le-zero l)
     end k false l ih = ih l
 
-    go : (b : Bool) → mine m c ≡ b → ofM m (take k cs) ≡ history m (take k (rest (removes m c ((stationCall s c) .0))))
+    go : (b : Bool) → mine m c ≡ b → ofM m (take k cs) ≡ history m (take k (rest (removes m (c .call) ((stationCall s c) .0))))
         → ofM m (take (suc k) (c ∷ cs)) ≡ history m (take (suc k) (story m s (c ∷ cs)))
-    go true p ih = rw p (ap {B = List Call} (λ l. c ∷ l) ih)
+    go true p ih = rw p (ap {B = List Asked} (λ l. c ∷ l) ih)
     go false p ih = rw p ih
 
 -- the history of a story's beginning is the beginning of its history
@@ -138,7 +138,7 @@ history-take m (suc k) (x ∷ xs) = go (mine m (x .0)) refl (history-take m k xs
   where
     go : (b : Bool) → mine m (x .0) ≡ b → history m (take k xs) ≡ take (length (history m (take k xs))) (history m xs)
         → history m (take (suc k) (x ∷ xs)) ≡ take (length (history m (take (suc k) (x ∷ xs)))) (history m (x ∷ xs))
-    go true p ih = rw p (ap {B = List Call} (λ l. x .0 ∷ l) ih)
+    go true p ih = rw p (ap {B = List Asked} (λ l. x .0 ∷ l) ih)
     go false p ih = rw p ih
 
 module _ {m : ℕ} {r : Given} (x : Run m r) where

@@ -35,14 +35,15 @@ use Rattle.motor.specs.Receive.{accepts, late, readId, readStored, frameSaid, s
 use Rattle.motor.proofs.Ends.{Closed, begin-ends, advance-ends}
 use Rattle.motor.proofs.Stays.{moves, heardMoves, argued-passed, running}
 use Rattle.station.specs.declared.station.Station.{Station}
-use Rattle.station.specs.declared.station.Moved.{Moved}
-use Rattle.station.specs.declared.station.Told.{Told}
-use Rattle.station.specs.Calls.{says, answered}
+use Rattle.station.specs.declared.station.After.{After}
+use Rattle.station.specs.declared.call.Asked.{Asked}
+use Rattle.station.specs.declared.call.Call.{Call}
+use Rattle.station.specs.declared.call.Call.the-variants as call
+use Rattle.station.specs.Calls.{gives}
 use Rattle.station.specs.Station.{source}
-use Rattle.station.specs.Stations.{freeMotor, indexOf, motorAt, withMotor, atPlace, told, movedAt, unmoved, heardAt, removedAt, enteredIn, admittedIn, registerBy, registerIn, startIn, stepIn, frameIn, removeIn}
-use Rattle.station.specs.Demands.{still, number}
-use Rattle.station.proofs.Contracts.{Request, registering, starting, stepping, receiving, looking, removing}
-use Rattle.station.proofs.Contracts.{answerIn, next, given}
+use Rattle.station.specs.Stations.{freeMotor, indexOf, motorAt, withMotor, atPlace, tells, movedAt, unmoved, heardAt, removedAt, enteredIn, admittedIn, registerBy, registerIn, startIn, stepIn, frameIn, removeIn}
+use Rattle.station.specs.Demands.{inert}
+use Rattle.station.proofs.Contracts.{replyIn, next, givenBy, given}
 use Rattle.station.proofs.Elsewhere.{either, at-place}
 use Rattle.station.proofs.Refused.{said-moves, told-moves}
 
@@ -110,87 +111,87 @@ put-back st i y e =
 -- ---- the six calls
 
 -- refused by such a number, st comes back
-abbrev MovedStill : Station → Moved → Type 0
-MovedStill st r = still (says (r .said) (r .frame) (r .result)) ≡ true → r .station ≡ st
+abbrev Still : Station → After → Type 0
+Still st r = inert (gives (r .replied)) ≡ true → r .station ≡ st
 
-abbrev ToldStill : Station → Told → Type 0
-ToldStill st r = still (answered (r .said)) ≡ true → r .station ≡ st
-
-refused-still : (st : Station) (r : Refusal) → ToldStill st (told st (checked.Refused r))
+refused-still : (st : Station) (r : Refusal) → Still st (tells st (checked.Refused r))
 refused-still st r e = refl
 
-passed-still : (st after : Station) → ToldStill st (told after checked.Passed)
-unfolding still number among answered
+passed-still : (st after : Station) → Still st (tells after checked.Passed)
+unfolding inert among
 passed-still st after e = absurd (true≢false (sym e))
 
-moved-still : (st : Station) (i : ℕ) (a : Answered) → (moves (a .said) ≡ false → a .motor ≡ motorAt st i) → MovedStill st (movedAt st i a)
+moved-still : (st : Station) (i : ℕ) (a : Answered) → (moves (a .said) ≡ false → a .motor ≡ motorAt st i) → Still st (movedAt st i a)
 moved-still st i a same e = put-back st i (a .motor) (same (said-moves (a .said) (a .frame) (a .result) e))
 
-heard-still : (st : Station) (i : ℕ) (h : Heard) → (heardMoves (h .said) ≡ false → h .motor ≡ motorAt st i) → ToldStill st (heardAt st i h)
+heard-still : (st : Station) (i : ℕ) (h : Heard) → (heardMoves (h .said) ≡ false → h .motor ≡ motorAt st i) → Still st (heardAt st i h)
 heard-still st i h same e = put-back st i (h .motor) (same (told-moves (h .said) e))
 
-start-still : (st : Station) (id : ℕ) (c : Command) (now : ℕ) → MovedStill st (startIn st id c now)
+start-still : (st : Station) (id : ℕ) (c : Command) (now : ℕ) → Still st (startIn st id c now)
 unfolding startIn
 start-still st id c now =
-    at-place (MovedStill st) st id (λ i. movedAt st i (startOf (motorAt st i) c now)) (unmoved st)
+    at-place (Still st) st id (λ i. movedAt st i (startOf (motorAt st i) c now)) (unmoved st)
     (λ i p. moved-still st i (startOf (motorAt st i) c now) (start-kept (motorAt st i) c now))
     (λ e. refl)
 
-step-still : (st : Station) (id now : ℕ) → MovedStill st (stepIn st id now)
+step-still : (st : Station) (id now : ℕ) → Still st (stepIn st id now)
 unfolding stepIn
 step-still st id now =
-    at-place (MovedStill st) st id (λ i. movedAt st i (stepOf (motorAt st i) now)) (unmoved st)
+    at-place (Still st) st id (λ i. movedAt st i (stepOf (motorAt st i) now)) (unmoved st)
     (λ i p. moved-still st i (stepOf (motorAt st i) now) (step-kept (motorAt st i) now))
     (λ e. refl)
 
-frame-still : (st : Station) (f : CanFrame) (now : ℕ) → ToldStill st (frameIn st f now)
+frame-still : (st : Station) (f : CanFrame) (now : ℕ) → Still st (frameIn st f now)
 unfolding frameIn
 frame-still st f now =
-    let other = told st (checked.Refused refusal.FrameNotAccepted) in
-    either (ToldStill st) (accepts (source f) f) (atPlace st (source f) (λ i. heardAt st i (heardOf (motorAt st i) f now)) other) other
-    (at-place (ToldStill st) st (source f) (λ i. heardAt st i (heardOf (motorAt st i) f now)) other
+    let other = tells st (checked.Refused refusal.FrameNotAccepted) in
+    either (Still st) (accepts (source f) f) (atPlace st (source f) (λ i. heardAt st i (heardOf (motorAt st i) f now)) other) other
+    (at-place (Still st) st (source f) (λ i. heardAt st i (heardOf (motorAt st i) f now)) other
     (λ i p. heard-still st i (heardOf (motorAt st i) f now) (heard-kept (motorAt st i) f now))
     (refused-still st refusal.FrameNotAccepted))
     (refused-still st refusal.FrameNotAccepted)
 
-removed-still : (k : Checked) (st : Station) (i : ℕ) → ToldStill st (removedAt k st i)
+removed-still : (k : Checked) (st : Station) (i : ℕ) → Still st (removedAt k st i)
 removed-still checked.Passed st i = passed-still st (withMotor st i freeMotor)
 removed-still (checked.Refused r) st i = refused-still st r
 
-remove-still : (st : Station) (id now : ℕ) → ToldStill st (removeIn st id now)
+remove-still : (st : Station) (id now : ℕ) → Still st (removeIn st id now)
 unfolding removeIn
 remove-still st id now =
-    at-place (ToldStill st) st id (λ i. removedAt (removalOf (motorAt st i) now) st i) (told st (checked.Refused refusal.IdNotRegistered))
+    at-place (Still st) st id (λ i. removedAt (removalOf (motorAt st i) now) st i) (tells st (checked.Refused refusal.IdNotRegistered))
     (λ i p. removed-still (removalOf (motorAt st i) now) st i)
     (refused-still st refusal.IdNotRegistered)
 
-entered-still : (st : Station) (m : Motor) → ToldStill st (enteredIn st m)
+entered-still : (st : Station) (m : Motor) → Still st (enteredIn st m)
 unfolding enteredIn
 entered-still st m =
-    either (ToldStill st) (ltb (indexOf (st .motors) 0) 8) (told (withMotor st (indexOf (st .motors) 0) m) checked.Passed) (told st (checked.Refused refusal.StationFull))
+    either (Still st) (ltb (indexOf (st .motors) 0) 8) (tells (withMotor st (indexOf (st .motors) 0) m) checked.Passed) (tells st (checked.Refused refusal.StationFull))
     (passed-still st (withMotor st (indexOf (st .motors) 0) m))
     (refused-still st refusal.StationFull)
 
-admitted-still : (st : Station) (id host : ℕ) (model : Model) (wait time : ℕ) → ToldStill st (admittedIn st id host model wait time)
+admitted-still : (st : Station) (id host : ℕ) (model : Model) (wait time : ℕ) → Still st (admittedIn st id host model wait time)
 unfolding admittedIn
 admitted-still st id host model wait time =
-    at-place (ToldStill st) st id (λ i. told st (checked.Refused refusal.IdRegistered)) (enteredIn st (newMotor id host model wait time))
+    at-place (Still st) st id (λ i. tells st (checked.Refused refusal.IdRegistered)) (enteredIn st (newMotor id host model wait time))
     (λ i p. refused-still st refusal.IdRegistered)
     (entered-still st (newMotor id host model wait time))
 
-registered-still : (k : Admission) (st : Station) (id host wait time : ℕ) → ToldStill st (registerBy k st id host wait time)
+registered-still : (k : Admission) (st : Station) (id host wait time : ℕ) → Still st (registerBy k st id host wait time)
 registered-still (admission.Admitted model) st id host wait time = admitted-still st id host model wait time
 registered-still (admission.Refused r) st id host wait time = refused-still st r
 
-register-still : (st : Station) (id host : ℕ) (model : ModelNamed) (wait time : ℕ) → ToldStill st (registerIn st id host model wait time)
+register-still : (st : Station) (id host : ℕ) (model : ModelNamed) (wait time : ℕ) → Still st (registerIn st id host model wait time)
 unfolding registerIn
 register-still st id host model wait time = registered-still (registrationOf id host model wait time) st id host wait time
 
-pub given-still : (st : Station) (q : Request) → still (answerIn (given st q)) ≡ true → next st (given st q) ≡ st
-unfolding given answerIn next
-given-still st (registering κ m h n w t) = register-still st m h _ w t
-given-still st (starting m c t) = start-still st m c t
-given-still st (stepping m t) = step-still st m t
-given-still st (receiving f t) = frame-still st f t
-given-still st (looking m) = λ e. refl
-given-still st (removing m t) = remove-still st m t
+still-by : (st : Station) (c : Call) (f : CanFrame) → inert (replyIn (givenBy st c f)) ≡ true → next st (givenBy st c f) ≡ st
+unfolding givenBy replyIn next
+still-by st (call.Register m h k w t) f = register-still st m h k w t
+still-by st (call.Start m c t) f = start-still st m c t
+still-by st (call.Step m t) f = step-still st m t
+still-by st (call.Frame t) f = frame-still st f t
+still-by st (call.Look m) f = λ e. refl
+still-by st (call.Remove m t) f = remove-still st m t
+
+pub given-still : (st : Station) (a : Asked) → inert (replyIn (given st a)) ≡ true → next st (given st a) ≡ st
+given-still st a = still-by st (a .call) (a .frame)

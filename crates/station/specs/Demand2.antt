@@ -9,6 +9,8 @@ use mathlib.Core.Logic.{_⊎_}
 use mathlib.Core.Option.{Option, none, some}
 use lib.ListN.{getD}
 use Rattle.codec.specs.declared.bus.CanFrame.{CanFrame}
+use Rattle.codec.specs.declared.error.Checked.{Checked}
+use Rattle.codec.specs.declared.error.Checked.the-variants as checked
 use Rattle.codec.specs.declared.protocol.ParameterValue.{ParameterValue}
 use Rattle.codec.specs.declared.registers.ParameterDataType.{ParameterDataType}
 use Rattle.codec.specs.declared.registers.ParameterInfo.the-variants as info
@@ -16,18 +18,20 @@ use Rattle.codec.specs.Kinds.{infoOf}
 use Rattle.codec.specs.Values.{kindIn}
 use Rattle.codec.proofs.RoundTrips.{InRange}
 use Rattle.motor.specs.declared.engine.command.Command.the-variants as command
+use Rattle.motor.specs.declared.engine.command.Said.{Said}
 use Rattle.motor.specs.declared.engine.command.Said.the-variants as said
 use Rattle.motor.specs.declared.engine.reading.Found.{Found}
 use Rattle.motor.specs.declared.engine.reading.Found.the-variants as found
-use Rattle.motor.specs.engine.Requests.{noFrame}
 use Rattle.motor.specs.declared.readings.Entry.{Entry}
 use Rattle.motor.specs.Lone.{Lone}
 use Rattle.motor.specs.Readings.{entry, lookup}
 use Rattle.motor.specs.Receive.{accepts, isRead, readStatus, readId, readStored}
 use Rattle.motor.proofs.Echo.{Carries, WrittenOut}
 use Rattle.motor.proofs.ReceivingTheorems.{heldKind}
-use Rattle.station.specs.Calls.{Call, start, frame}
-use Rattle.station.specs.Calls.{Answer, ok, no, says, shows}
+use Rattle.station.specs.declared.call.Answer.{Answer}
+use Rattle.station.specs.declared.call.Answer.the-variants as answer
+use Rattle.station.specs.declared.call.Asked.{Asked}
+use Rattle.station.specs.Calls.{start, frame, Reply, ok}
 use Rattle.station.specs.Station.{Place, empty, held, source, stationCall}
 use Rattle.station.specs.History.{Told, after}
 use Rattle.station.specs.Definitions.{Ids, Parameters, MotionValues, StatusValues, ReceiveRules, Operations}
@@ -35,21 +39,27 @@ use Rattle.station.specs.Definitions.{Ids, Parameters, MotionValues, Sta
 -- ---- echo
 
 -- an answer that isn't a refusal, and the frame that comes with it
-unfoldable pub unrefused : Answer → Bool
-unrefused ok = true
-unrefused (no r) = false
-unrefused (says (said.Sent due) f b) = true
-unrefused (says (said.Waiting due) f b) = true
-unrefused (says (said.Finished r) f b) = true
-unrefused (says (said.FinishedWith r) f b) = true
-unrefused (says (said.Refused r) f b) = false
-unrefused (shows v) = true
+abbrev pub passes : Checked → Bool
+passes checked.Passed = true
+passes (checked.Refused r) = false
 
-unfoldable pub sentIn : Answer → CanFrame
-sentIn ok = noFrame
-sentIn (no r) = noFrame
-sentIn (says w f b) = f
-sentIn (shows v) = noFrame
+abbrev pub goesOn : Said → Bool
+goesOn (said.Sent due) = true
+goesOn (said.Waiting due) = true
+goesOn (said.Finished r) = true
+goesOn (said.FinishedWith r) = true
+goesOn (said.Refused r) = false
+
+abbrev pub unrefusedIn : Answer → Bool
+unrefusedIn (answer.Told k) = passes k
+unrefusedIn (answer.Moved s) = goesOn s
+unrefusedIn (answer.Looked k) = passes k
+
+abbrev pub unrefused : Reply → Bool
+unrefused r = unrefusedIn (r .replied .answer)
+
+abbrev pub sentIn : Reply → CanFrame
+sentIn r = r .replied .frame
 
 -- the reading of a parameter that is held for a motor
 unfoldable pub reading : ℕ → Option Lone → Found
@@ -74,7 +84,7 @@ In x [] = ⊥
 In x (y ∷ ys) = (x ≡ y) ⊎ In x ys
 
 -- calls from the station s on, each with its answer
-unfoldable pub telling : List Place → List Call → List Told
+unfoldable pub telling : List Place → List Asked → List Told
 telling s [] = []
 telling s (c ∷ cs) = (c, (stationCall s c) .0) ∷ telling ((stationCall s c) .1) cs
 
@@ -99,7 +109,7 @@ pub record HeldReading (m : ℕ) (told : List Told) (e : Entry) : Type 0 where
 -- after any list of calls from a fresh station, for any motor, every reading
 abbrev pub Readings : Type 0
 Readings =
-    (cs : List Call) (m : ℕ) (h : Lone) → held (after empty cs) m ≡ some h → (e : Entry) → In e (h .readings) → HeldReading m (telling empty cs) e
+    (cs : List Asked) (m : ℕ) (h : Lone) → held (after empty cs) m ≡ some h → (e : Entry) → In e (h .readings) → HeldReading m (telling empty cs) e
 
 -- ---- demand 2
 

@@ -6,20 +6,26 @@ use mathlib.Core.List.{List, [], _∷_}
 use mathlib.Core.Option.{none, some}
 use lib.ListN.{length, take}
 use Rattle.codec.specs.declared.bus.CanFrame.{CanFrame}
+use Rattle.codec.specs.declared.error.Checked.{Checked}
 use Rattle.codec.specs.declared.error.Checked.the-variants as checked
 use Rattle.codec.specs.declared.model.Model.{Model}
 use Rattle.codec.specs.declared.model.ModelNamed.the-variants as named
 use Rattle.codec.specs.Kinds.{among}
 use Rattle.codec.specs.Refusals.{numberOf}
 use Rattle.motor.specs.declared.engine.command.Command.{Command}
+use Rattle.motor.specs.declared.engine.command.Said.{Said}
 use Rattle.motor.specs.declared.engine.command.Said.the-variants as said
 use Rattle.motor.specs.declared.engine.operation.Effect.the-variants as effect
 use Rattle.motor.specs.engine.Run.{idle}
 use Rattle.motor.specs.Calls.{noCommand, movedBy}
 use Rattle.motor.specs.Lone.{Lone, loneNew}
 use Rattle.motor.specs.Receive.{counted}
-use Rattle.station.specs.Calls.{Call, register, start, step, frame, look, remove}
-use Rattle.station.specs.Calls.{Answer, ok, no, says, shows}
+use Rattle.station.specs.declared.call.Answer.{Answer}
+use Rattle.station.specs.declared.call.Answer.the-variants as answer
+use Rattle.station.specs.declared.call.Asked.{Asked}
+use Rattle.station.specs.declared.call.Call.{Call}
+use Rattle.station.specs.declared.call.Call.the-variants as call
+use Rattle.station.specs.Calls.{register, start, step, frame, remove, Reply, ok}
 use Rattle.station.specs.Station.{Place, empty, held, Distinct, admission, source, stationCall}
 use Rattle.station.specs.History.{Told, mine, ofM, after, story, own, history, alone, holds}
 
@@ -31,7 +37,7 @@ pub record Given : Type 0 where
   pub time : ℕ
 
 -- the registration, and the lone motor made by it
-unfoldable pub registers : ℕ → Given → Call
+unfoldable pub registers : ℕ → Given → Asked
 registers m r = register m (r .host) (named.Known (r .model)) (r .wait) (r .time)
 
 unfoldable pub made : ℕ → Given → Lone
@@ -39,8 +45,8 @@ made m r = loneNew m (r .host) (r .model) (r .wait) (r .time)
 
 -- A list of calls on a fresh station which at some point registers m, unrefused: before ++ (registers m r ∷ later).
 pub record Run (m : ℕ) (r : Given) : Type 0 where
-  pub before : List Call
-  pub later : List Call
+  pub before : List Asked
+  pub later : List Asked
   pub unrefused : (stationCall (after empty before) (registers m r)) .0 ≡ ok
 
 module _ {m : ℕ} {r : Given} (x : Run m r) where
@@ -69,36 +75,45 @@ pub record Same {m : ℕ} {r : Given} (x y : Run m r) : Type 0 where
 pub record Demand3 : Type 0 where
   pub two-runs : (m : ℕ) (r : Given) (x y : Run m r) → history m (since x) ≡ history m (since y) → Same x y
   pub lone-motor : (m : ℕ) (r : Given) (x : Run m r) → AsLone x
-  pub places : (cs : List Call) → (length (after empty cs) ≡ 8) × Distinct (after empty cs)
-  pub taken-in : (cs : List Call) (m : ℕ) (r : Given)
+  pub places : (cs : List Asked) → (length (after empty cs) ≡ 8) × Distinct (after empty cs)
+  pub taken-in : (cs : List Asked) (m : ℕ) (r : Given)
       → admission (after empty cs) m (r .host) (named.Known (r .model)) (r .wait) (r .time) ≡ checked.Passed
       → (stationCall (after empty cs) (registers m r)) .0 ≡ ok
 
 -- ---- demand 1
 
 -- the number by which an answer refuses, 0 where it doesn't
-unfoldable pub number : Answer → ℕ
-number ok = 0
-number (no r) = numberOf r
-number (says (said.Sent due) f b) = 0
-number (says (said.Waiting due) f b) = 0
-number (says (said.Finished r) f b) = 0
-number (says (said.FinishedWith r) f b) = 0
-number (says (said.Refused r) f b) = numberOf r
-number (shows v) = 0
+abbrev pub checkedNumber : Checked → ℕ
+checkedNumber checked.Passed = 0
+checkedNumber (checked.Refused r) = numberOf r
+
+abbrev pub saidNumber : Said → ℕ
+saidNumber (said.Sent due) = 0
+saidNumber (said.Waiting due) = 0
+saidNumber (said.Finished r) = 0
+saidNumber (said.FinishedWith r) = 0
+saidNumber (said.Refused r) = numberOf r
+
+abbrev pub numberIn : Answer → ℕ
+numberIn (answer.Told k) = checkedNumber k
+numberIn (answer.Moved s) = saidNumber s
+numberIn (answer.Looked k) = checkedNumber k
+
+abbrev pub number : Reply → ℕ
+number r = numberIn (r .replied .answer)
 
 -- refused by a number other than 14 to 18 and 20
-unfoldable pub still : Answer → Bool
-still a = not (among (number a) (0 ∷ 14 ∷ 15 ∷ 16 ∷ 17 ∷ 18 ∷ 20 ∷ []))
+unfoldable pub inert : Reply → Bool
+inert r = not (among (number r) (0 ∷ 14 ∷ 15 ∷ 16 ∷ 17 ∷ 18 ∷ 20 ∷ []))
 
 -- the numbers that a call may get, 0 with them: those of its tests, in their order, and of a step those by which an operation fails
 unfoldable pub numbersOf : Call → List ℕ
-numbersOf (register m host model wait time) = 0 ∷ 1 ∷ 2 ∷ 3 ∷ 9 ∷ 7 ∷ 5 ∷ 4 ∷ []
-numbersOf (start m c now) = 0 ∷ 6 ∷ 7 ∷ 8 ∷ 9 ∷ 2 ∷ 19 ∷ 12 ∷ 10 ∷ 11 ∷ []
-numbersOf (step m now) = 0 ∷ 6 ∷ 7 ∷ 21 ∷ 16 ∷ 17 ∷ 18 ∷ 20 ∷ []
-numbersOf (frame f now) = 0 ∷ 13 ∷ 7 ∷ 14 ∷ 15 ∷ []
-numbersOf (look m) = 0 ∷ 6 ∷ []
-numbersOf (remove m now) = 0 ∷ 6 ∷ 7 ∷ 8 ∷ []
+numbersOf (call.Register m host model wait time) = 0 ∷ 1 ∷ 2 ∷ 3 ∷ 9 ∷ 7 ∷ 5 ∷ 4 ∷ []
+numbersOf (call.Start m c now) = 0 ∷ 6 ∷ 7 ∷ 8 ∷ 9 ∷ 2 ∷ 19 ∷ 12 ∷ 10 ∷ 11 ∷ []
+numbersOf (call.Step m now) = 0 ∷ 6 ∷ 7 ∷ 21 ∷ 16 ∷ 17 ∷ 18 ∷ 20 ∷ []
+numbersOf (call.Frame now) = 0 ∷ 13 ∷ 7 ∷ 14 ∷ 15 ∷ []
+numbersOf (call.Look m) = 0 ∷ 6 ∷ []
+numbersOf (call.Remove m now) = 0 ∷ 6 ∷ 7 ∷ 8 ∷ []
 
 -- a motor whose clock takes the call's time, and besides: its response count rises; its operation is over
 unfoldable pub raised : Lone → ℕ → Lone
@@ -111,8 +126,8 @@ failed h now = record { state = movedBy (h .state) now noCommand idle effect.Not
 -- motor's place is free. 14 and 15 change of their motor the clock and the response count, nothing else; 16, 17, 18 and 20 the clock
 -- and the operation, nothing else. Each call gets its own numbers only: a look refuses only with 6.
 pub record Demand1 : Type 0 where
-  pub refused : (s : List Place) (c : Call) → still ((stationCall s c) .0) ≡ true → (stationCall s c) .1 ≡ s
-  pub others : (s : List Place) (m : ℕ) (c : Call) → mine m c ≡ false → held ((stationCall s c) .1) m ≡ held s m
+  pub refused : (s : List Place) (c : Asked) → inert ((stationCall s c) .0) ≡ true → (stationCall s c) .1 ≡ s
+  pub others : (s : List Place) (m : ℕ) (c : Asked) → mine m c ≡ false → held ((stationCall s c) .1) m ≡ held s m
   pub freed : (s : List Place) (m now : ℕ) → Distinct s → (stationCall s (remove m now)) .0 ≡ ok → held ((stationCall s (remove m now)) .1) m ≡ none
   pub counted : (s : List Place) (f : CanFrame) (now : ℕ) (h : Lone) → Distinct s → held s (source f) ≡ some h
       → among (number ((stationCall s (frame f now)) .0)) (14 ∷ 15 ∷ []) ≡ true
@@ -120,7 +135,7 @@ pub record Demand1 : Type 0 where
   pub ended : (s : List Place) (m now : ℕ) (h : Lone) → Distinct s → held s m ≡ some h
       → among (number ((stationCall s (step m now)) .0)) (16 ∷ 17 ∷ 18 ∷ 20 ∷ []) ≡ true
       → held ((stationCall s (step m now)) .1) m ≡ some (failed h now)
-  pub numbers : (s : List Place) (c : Call) → among (number ((stationCall s c) .0)) (numbersOf c) ≡ true
+  pub numbers : (s : List Place) (c : Asked) → among (number ((stationCall s c) .0)) (numbersOf (c .call)) ≡ true
   pub start-numbers : (s : List Place) (m : ℕ) (c : Command) (now : ℕ)
       → among (number ((stationCall s (start m c now)) .0)) (14 ∷ 15 ∷ 16 ∷ 17 ∷ 18 ∷ 20 ∷ 21 ∷ []) ≡ false
   pub frame-numbers : (s : List Place) (f : CanFrame) (now : ℕ)

@@ -24,6 +24,7 @@ use Rattle.codec.specs.Replies.{zeros, pingAnswer, versionAnswer}
 use Rattle.motor.specs.declared.engine.command.Command.{Command}
 use Rattle.motor.specs.declared.engine.command.Command.the-variants as command
 use Rattle.motor.specs.declared.engine.command.Outcome.the-variants as outcome
+use Rattle.motor.specs.declared.engine.command.Said.{Said}
 use Rattle.motor.specs.declared.engine.command.Said.the-variants as said
 use Rattle.motor.specs.declared.engine.candidates.Candidates.{Candidates}
 use Rattle.motor.specs.declared.engine.reading.Found.the-variants as found
@@ -36,16 +37,18 @@ use Rattle.motor.specs.Lone.{Lone, hears}
 use Rattle.motor.specs.Readings.{run}
 use Rattle.motor.specs.Receive.{accepts, late, counted, pingAfter, feedbackIn, nextSequence, feedbackAfter, faultAfter, told, isRead, readStatus, readId, readStored, frameSaid, stateAfter, readingsAfter}
 use Rattle.motor.specs.Runs.{word, bytes, sending, received}
-use Rattle.station.specs.Calls.{Call, register, start, step, frame}
-use Rattle.station.specs.Calls.{Answer, ok, no, says, shows, answered, refuses}
-use Rattle.station.specs.Station.{Place, empty, held, isSome, full, add, put, place, movesTo, hearsTo, leaves, lone, route, admission, enter, admit, source, stationCall}
+use Rattle.station.specs.declared.call.Answer.{Answer}
+use Rattle.station.specs.declared.call.Answer.the-variants as answer
+use Rattle.station.specs.declared.call.Asked.{Asked}
+use Rattle.station.specs.Calls.{register, start, step, frame, Reply, ok, no, says, refused}
+use Rattle.station.specs.Station.{Place, empty, held, isSome, full, add, put, place, movesTo, hearsTo, leaves, loneBy, route, admission, enter, admit, source, stationBy, stationCall}
 use Rattle.station.specs.History.{after}
 use Rattle.station.specs.Demand2.{reading}
 
 -- ---- sessions
 
 -- the answers to calls, each on the station that the last one returned
-unfoldable pub answers : List Place → List Call → List Answer
+unfoldable pub answers : List Place → List Asked → List Reply
 answers s [] = []
 answers s (c ∷ cs) =
     let r = stationCall s c in
@@ -68,58 +71,60 @@ flags (some h) = flagsIn (h .state .feedback .latest)
 abbrev pub withValues : Refusal → List ℤ
 withValues r = pos (numberOf r) ∷ valuesOf r
 
-unfoldable pub refusedIn : Answer → List ℤ
-refusedIn ok = []
-refusedIn (no r) = withValues r
-refusedIn (says (said.Sent due) f b) = []
-refusedIn (says (said.Waiting due) f b) = []
-refusedIn (says (said.Finished r) f b) = []
-refusedIn (says (said.FinishedWith r) f b) = []
-refusedIn (says (said.Refused r) f b) = withValues r
-refusedIn (shows v) = []
-
 unfoldable pub refusedBy : Checked → List ℤ
 refusedBy checked.Passed = []
 refusedBy (checked.Refused r) = withValues r
 
+unfoldable pub failedBy : Said → List ℤ
+failedBy (said.Sent due) = []
+failedBy (said.Waiting due) = []
+failedBy (said.Finished r) = []
+failedBy (said.FinishedWith r) = []
+failedBy (said.Refused r) = withValues r
+
+unfoldable pub refusedIn : Answer → List ℤ
+refusedIn (answer.Told k) = refusedBy k
+refusedIn (answer.Moved s) = failedBy s
+refusedIn (answer.Looked k) = refusedBy k
+
 -- ---- calls and frames of the rows
 
-abbrev pub registered : ℕ → Call
+abbrev pub registered : ℕ → Asked
 registered m = register m 0xFD (named.Known Rs00) 0 100
 
 -- a call for motor 1 at time 100
-abbrev pub call : Command → Call
+abbrev pub call : Command → Asked
 call c = start 1 c 100
 
 -- a status frame of motor 1; and a motor's reply to a read of this parameter, with the value's four bytes
-abbrev pub acknowledges : ℕ → Call
+abbrev pub acknowledges : ℕ → Asked
 acknowledges now = frame (received 0x028001FD zeros) now
 
-abbrev pub replies : ℕ → ℕ → ℕ → ℕ → ℕ → ℕ → ℕ → ℕ → Call
+abbrev pub replies : ℕ → ℕ → ℕ → ℕ → ℕ → ℕ → ℕ → ℕ → Asked
 replies m low high a b c d now = frame (received (joined 17 m 0xFD) (bytes low high 0 0 a b c d)) now
 
 -- run_mode as motor 1 gives it
-abbrev pub mode-is : ℕ → ℕ → Call
+abbrev pub mode-is : ℕ → ℕ → Asked
 mode-is m now = replies 1 0x05 0x70 m 0 0 0 now
 
 -- ---- the table: what is answered to calls on a station, the refusal that answers the last of them, what is held after them for a
 -- motor, what the codec refuses, the candidates
 
 pub data Row : Type 0 where
-  session : List Place → List Call → List Answer → Row
-  refuses-last : List Place → List Call → Call → List ℤ → Row
-  holds : List Place → List Call → ℕ → ℕ → ParameterValue → Row
-  status : List Place → List Call → ℕ → List ℕ → Row
-  refused : Checked → List ℤ → Row
+  session : List Place → List Asked → List Reply → Row
+  refuses-last : List Place → List Asked → Asked → List ℤ → Row
+  holds : List Place → List Asked → ℕ → ℕ → ParameterValue → Row
+  status : List Place → List Asked → ℕ → List ℕ → Row
+  decoder : Checked → List ℤ → Row
   hosts : ℕ → Candidates → Row
 
 abbrev pub Holds : List Row → Type 0
 Holds [] = Unit {0}
 Holds (session s cs said ∷ rows) = (answers s cs ≡ said) × Holds rows
-Holds (refuses-last s cs c n ∷ rows) = (refusedIn ((stationCall (after s cs) c) .0) ≡ n) × Holds rows
+Holds (refuses-last s cs c n ∷ rows) = (refusedIn ((stationCall (after s cs) c) .0 .replied .answer) ≡ n) × Holds rows
 Holds (holds s cs m id v ∷ rows) = (reading id (held (after s cs) m) ≡ found.Held (record { value = v })) × Holds rows
 Holds (status s cs m v ∷ rows) = (flags (held (after s cs) m) ≡ v) × Holds rows
-Holds (refused c n ∷ rows) = (refusedBy c ≡ n) × Holds rows
+Holds (decoder c n ∷ rows) = (refusedBy c ≡ n) × Holds rows
 Holds (hosts own v ∷ rows) = (candidatesOf own ≡ v) × Holds rows
 
 -- the starred ones, and the host candidates
@@ -143,7 +148,7 @@ marked =
     ∷ []
 
 -- a reading of each id from 1 to 96, all unlisted
-abbrev pub fills : List Call
+abbrev pub fills : List Asked
 fills = map (λ id. replies 1 id 0 0 0 0 0 100) (run 96 1)
 
 -- the numbers, 1 to 23
@@ -178,8 +183,8 @@ numbers =
     ∷ refuses-last one [] (call (command.SetDeviceId 0)) (pos 19 ∷ [])
     ∷ refuses-last one (call (command.GetParameterF32 0x7005 200) ∷ mode-is 2 120 ∷ []) (step 1 120) (pos 20 ∷ [])
     ∷ refuses-last one [] (step 1 100) (pos 21 ∷ [])
-    ∷ refused (pingAnswer 0x010001FD zeros .said) (pos 22 ∷ [])
-    ∷ refused (versionAnswer 0x020001FD (bytes 0x01 0 0 0 0 0 0 0) .said) (pos 23 ∷ [])
+    ∷ decoder (pingAnswer 0x010001FD zeros .said) (pos 22 ∷ [])
+    ∷ decoder (versionAnswer 0x020001FD (bytes 0x01 0 0 0 0 0 0 0) .said) (pos 23 ∷ [])
     ∷ []
 
 -- ---- the incident: flaps 2 and 6 both read their angle, 7019, and the replies come in either order. Each has its own: 1.5 and −2.0
@@ -187,16 +192,16 @@ numbers =
 abbrev pub angle : ℕ → ParameterValue
 angle bits = value.F32 (word bits)
 
-abbrev pub both : List Call
+abbrev pub both : List Asked
 both = registered 2 ∷ registered 6 ∷ start 2 (command.GetParameter 0x7019 200) 100 ∷ start 6 (command.GetParameter 0x7019 200) 100 ∷ []
 
-abbrev pub second : Call
+abbrev pub second : Asked
 second = replies 2 0x19 0x70 0 0 0xC0 0x3F 120
 
-abbrev pub sixth : Call
+abbrev pub sixth : Asked
 sixth = replies 6 0x19 0x70 0 0 0 0xC0 120
 
-abbrev pub gives : ℕ → Answer
+abbrev pub gives : ℕ → Reply
 gives bits = says (said.Finished (outcome.Value (angle bits))) noFrame zeros
 
 abbrev pub flaps : List Row
@@ -215,7 +220,7 @@ abbrev pub Examples : Type 0
 Examples = codec.Holds codec.examples × Holds marked × Holds numbers × Holds flaps
 
 pub examples-hold : Examples
-unfolding answers after one reading flags flagsIn refusedIn refusedBy run sameBytes namedAmong stationCall empty held isSome full add put place movesTo hearsTo leaves lone route admission enter admit source answered refuses hears frameSaid stateAfter readingsAfter accepts late counted told pingAfter feedbackIn nextSequence feedbackAfter faultAfter isRead readStatus readId readStored among listedIds int8Ids uint8Ids uint16Ids uint32Ids kindOf infoOf modeRead isMode candidatesOf
+unfolding answers after one reading flags flagsIn refusedIn refusedBy failedBy run sameBytes namedAmong stationBy empty held isSome full add put place movesTo hearsTo leaves loneBy route admission enter admit source refused hears frameSaid stateAfter readingsAfter accepts late counted told pingAfter feedbackIn nextSequence feedbackAfter faultAfter isRead readStatus readId readStored among listedIds int8Ids uint8Ids uint16Ids uint32Ids kindOf infoOf modeRead isMode candidatesOf
 examples-hold = (
   codec.examples-hold,
   (refl, (refl, (refl, (refl, (refl, (refl, (refl, tt))))))),

@@ -17,8 +17,10 @@ use Rattle.motor.specs.Calls.{registerNumbers}
 use Rattle.motor.specs.Lone.{Lone, LoneAnswered, LoneHeard, loneNew, loneAgain, loneStart, loneStep, hears, loneLook, loneRemoval}
 use Rattle.motor.specs.Numbers.{firstOf}
 use Rattle.motor.specs.Receive.{frameExtra, accepts}
-use Rattle.station.specs.Calls.{Call, register, start, step, frame, look, remove}
-use Rattle.station.specs.Calls.{Answer, ok, no, says, shows, answered, refuses}
+use Rattle.station.specs.declared.call.Asked.{Asked}
+use Rattle.station.specs.declared.call.Call.{Call}
+use Rattle.station.specs.declared.call.Call.the-variants as call
+use Rattle.station.specs.Calls.{Reply, ok, no, says, shows, answered, refuses}
 
 -- ---- places
 
@@ -71,30 +73,33 @@ Distinct (taken i h ∷ s) = (held s i ≡ none) × Distinct s
 
 -- ---- the lone motor: what it answers, and what it holds afterwards; none once it is removed
 
-unfoldable pub movesTo : LoneAnswered → Answer × Option Lone
+unfoldable pub movesTo : LoneAnswered → Reply × Option Lone
 movesTo a = (says (a .said) (a .frame) (a .result), some (a .lone))
 
-unfoldable pub hearsTo : LoneHeard → Answer × Option Lone
+unfoldable pub hearsTo : LoneHeard → Reply × Option Lone
 hearsTo h = (answered (h .said), some (h .lone))
 
 unfoldable pub leaves : Lone → Checked → Option Lone
 leaves h checked.Passed = none
 leaves h (checked.Refused r) = some h
 
-unfoldable pub lone : Lone → Call → Answer × Option Lone
-lone h (register m host model wait time) = (answered (loneAgain m host model wait time), some h)
-lone h (start m c now) = movesTo (loneStart h c now)
-lone h (step m now) = movesTo (loneStep h now)
-lone h (frame f now) = hearsTo (hears h f now)
-lone h (look m) = (shows (loneLook h), some h)
-lone h (remove m now) = (answered (loneRemoval h now), leaves h (loneRemoval h now))
+unfoldable pub loneBy : Lone → Call → CanFrame → Reply × Option Lone
+loneBy h (call.Register m host model wait time) f = (answered (loneAgain m host model wait time), some h)
+loneBy h (call.Start m c now) f = movesTo (loneStart h c now)
+loneBy h (call.Step m now) f = movesTo (loneStep h now)
+loneBy h (call.Frame now) f = hearsTo (hears h f now)
+loneBy h (call.Look m) f = (shows (loneLook h), some h)
+loneBy h (call.Remove m now) f = (answered (loneRemoval h now), leaves h (loneRemoval h now))
+
+abbrev pub lone : Lone → Asked → Reply × Option Lone
+lone h a = loneBy h (a .call) (a .frame)
 
 -- ---- the station
 
 -- a call goes to what is held for the motor m, and is refused where nothing is
-unfoldable pub route : List Place → ℕ → Option Lone → Refusal → Call → Answer × List Place
-route s m none n c = (refuses c n, s)
-route s m (some h) n c = ((lone h c) .0, put s m ((lone h c) .1))
+unfoldable pub route : List Place → ℕ → Option Lone → Reply → (Lone → Reply × Option Lone) → Reply × List Place
+route s m none refusal visit = (refusal, s)
+route s m (some h) refusal visit = ((visit h) .0, put s m ((visit h) .1))
 
 -- Register: 1, 2, 3, 9, 7, 5, 4
 unfoldable pub admission : List Place → ℕ → ℕ → ModelNamed → ℕ → ℕ → Checked
@@ -102,11 +107,11 @@ admission s m host model wait time =
     firstOf (registerNumbers m host model wait time ++ ((isSome (held s m), refusal.IdRegistered) ∷ (full s, refusal.StationFull) ∷ []))
 
 -- passed, the model is known: 3 comes before
-unfoldable pub enter : List Place → ℕ → ℕ → ModelNamed → ℕ → ℕ → Answer × List Place
+unfoldable pub enter : List Place → ℕ → ℕ → ModelNamed → ℕ → ℕ → Reply × List Place
 enter s m host (named.Known model) wait time = (ok, add s m (loneNew m host model wait time))
 enter s m host named.Unknown wait time = (no refusal.UnknownModel, s)
 
-unfoldable pub admit : Checked → List Place → ℕ → ℕ → ModelNamed → ℕ → ℕ → Answer × List Place
+unfoldable pub admit : Checked → List Place → ℕ → ℕ → ModelNamed → ℕ → ℕ → Reply × List Place
 admit checked.Passed s m host model wait time = enter s m host model wait time
 admit (checked.Refused r) s m host model wait time = (no r, s)
 
@@ -114,12 +119,22 @@ admit (checked.Refused r) s m host model wait time = (no r, s)
 unfoldable pub source : CanFrame → ℕ
 source f = frameExtra f % 256
 
--- Start, step, look and remove: 6, then the motor's numbers. Frame: 13, then the motor's.
-unfoldable pub stationCall : List Place → Call → Answer × List Place
-stationCall s (register m host model wait time) = admit (admission s m host model wait time) s m host model wait time
-stationCall s (start m c now) = route s m (held s m) refusal.IdNotRegistered (start m c now)
-stationCall s (step m now) = route s m (held s m) refusal.IdNotRegistered (step m now)
-stationCall s (frame f now) =
-    cond (accepts (source f) f) (route s (source f) (held s (source f)) refusal.FrameNotAccepted (frame f now)) (no refusal.FrameNotAccepted, s)
-stationCall s (look m) = route s m (held s m) refusal.IdNotRegistered (look m)
-stationCall s (remove m now) = route s m (held s m) refusal.IdNotRegistered (remove m now)
+-- to the motor of an id: 6, then the motor's numbers
+abbrev pub toMotor : List Place → ℕ → Call → CanFrame → Reply × List Place
+toMotor s m c f = route s m (held s m) (refuses c refusal.IdNotRegistered) (λ h. loneBy h c f)
+
+-- to the motor that a frame comes from: 13, then the motor's numbers
+abbrev pub toSource : List Place → CanFrame → ℕ → Reply × List Place
+toSource s f now =
+    route s (source f) (held s (source f)) (refuses (call.Frame now) refusal.FrameNotAccepted) (λ h. loneBy h (call.Frame now) f)
+
+unfoldable pub stationBy : List Place → Call → CanFrame → Reply × List Place
+stationBy s (call.Register m host model wait time) f = admit (admission s m host model wait time) s m host model wait time
+stationBy s (call.Start m c now) f = toMotor s m (call.Start m c now) f
+stationBy s (call.Step m now) f = toMotor s m (call.Step m now) f
+stationBy s (call.Frame now) f = cond (accepts (source f) f) (toSource s f now) (no refusal.FrameNotAccepted, s)
+stationBy s (call.Look m) f = toMotor s m (call.Look m) f
+stationBy s (call.Remove m now) f = toMotor s m (call.Remove m now) f
+
+abbrev pub stationCall : List Place → Asked → Reply × List Place
+stationCall s a = stationBy s (a .call) (a .frame)

@@ -12,12 +12,11 @@ use Rattle.codec.specs.declared.error.Refusal.the-variants as refusal
 use Rattle.codec.specs.declared.model.Model.{Model}
 use Rattle.codec.specs.declared.model.Model.the-variants as models
 use Rattle.codec.specs.declared.model.ModelNamed.{ModelNamed}
-use Rattle.codec.specs.Replies.{zeros}
 use Rattle.motor.specs.declared.engine.command.Command.{Command}
 use Rattle.motor.specs.declared.engine.command.Said.the-variants as said
-use Rattle.motor.specs.engine.Requests.{noFrame}
 use Rattle.motor.specs.declared.motor.Answered.{Answered}
 use Rattle.motor.specs.declared.motor.Motor.{Motor}
+use Rattle.motor.specs.declared.motor.Seen.{Seen}
 use Rattle.motor.specs.declared.receive.Heard.{Heard}
 use Rattle.motor.specs.declared.registration.Admission.{Admission}
 use Rattle.motor.specs.declared.registration.Admission.the-variants as admission
@@ -27,10 +26,14 @@ use Rattle.motor.specs.Motors.{newMotor, startOf, stepOf, lookOf, removalOf}
 use Rattle.motor.specs.Readings.{Holds}
 use Rattle.motor.specs.Receive.{accepts, heardOf}
 use Rattle.station.specs.declared.station.Station.{Station}
-use Rattle.station.specs.declared.station.Moved.{Moved}
-use Rattle.station.specs.declared.station.Told.{Told}
+use Rattle.station.specs.declared.station.After.{After}
 use Rattle.station.specs.declared.station.Looked.{Looked}
-use Rattle.station.specs.Calls.{Answer, no, says, shows, answered}
+use Rattle.station.specs.declared.call.Answer.the-variants as answer
+use Rattle.station.specs.declared.call.Asked.{Asked}
+use Rattle.station.specs.declared.call.Call.{Call}
+use Rattle.station.specs.declared.call.Call.the-variants as call
+use Rattle.station.specs.declared.call.Replied.{Replied}
+use Rattle.station.specs.Calls.{reply, told, moved, Reply, gives, shows}
 use Rattle.station.specs.Station.{Place, free, taken, source}
 
 -- ---- places
@@ -63,49 +66,53 @@ atPlace st id found none = cond (ltb (takenPlace (st .motors) id) 8) (found (tak
 
 -- ---- the calls
 
-abbrev pub told : Station → Checked → Told
-told st said = record { station = st; said = said }
+-- a reply, and the station that it leaves
+abbrev pub left : Station → Replied → After
+left st r = record { station = st; replied = r }
 
-abbrev pub movedAt : Station → ℕ → Answered → Moved
-movedAt st i a = record { station = withMotor st i (a .motor); said = a .said; frame = a .frame; result = a .result }
+abbrev pub tells : Station → Checked → After
+tells st said = left st (told said)
 
-abbrev pub unmoved : Station → Moved
-unmoved st = record { station = st; said = said.Refused refusal.IdNotRegistered; frame = noFrame; result = zeros }
+abbrev pub movedAt : Station → ℕ → Answered → After
+movedAt st i a = left (withMotor st i (a .motor)) (moved (a .said) (a .frame) (a .result))
 
-abbrev pub heardAt : Station → ℕ → Heard → Told
-heardAt st i h = told (withMotor st i (h .motor)) (h .said)
+abbrev pub unmoved : Station → After
+unmoved st = left st (reply (answer.Moved (said.Refused refusal.IdNotRegistered)))
 
-abbrev pub removedAt : Checked → Station → ℕ → Told
-removedAt checked.Passed st i = told (withMotor st i freeMotor) checked.Passed
-removedAt (checked.Refused r) st i = told st (checked.Refused r)
+abbrev pub heardAt : Station → ℕ → Heard → After
+heardAt st i h = tells (withMotor st i (h .motor)) (h .said)
+
+abbrev pub removedAt : Checked → Station → ℕ → After
+removedAt checked.Passed st i = tells (withMotor st i freeMotor) checked.Passed
+removedAt (checked.Refused r) st i = tells st (checked.Refused r)
 
 -- the first free place is that of the id 0
-unfoldable pub enteredIn : Station → Motor → Told
+unfoldable pub enteredIn : Station → Motor → After
 enteredIn st m =
     cond (ltb (indexOf (st .motors) 0) 8)
-    (told (withMotor st (indexOf (st .motors) 0) m) checked.Passed)
-    (told st (checked.Refused refusal.StationFull))
+    (tells (withMotor st (indexOf (st .motors) 0) m) checked.Passed)
+    (tells st (checked.Refused refusal.StationFull))
 
-unfoldable pub admittedIn : Station → ℕ → ℕ → Model → ℕ → ℕ → Told
+unfoldable pub admittedIn : Station → ℕ → ℕ → Model → ℕ → ℕ → After
 admittedIn st id host model wait time =
-    atPlace st id (λ i. told st (checked.Refused refusal.IdRegistered)) (enteredIn st (newMotor id host model wait time))
+    atPlace st id (λ i. tells st (checked.Refused refusal.IdRegistered)) (enteredIn st (newMotor id host model wait time))
 
-abbrev pub registerBy : Admission → Station → ℕ → ℕ → ℕ → ℕ → Told
+abbrev pub registerBy : Admission → Station → ℕ → ℕ → ℕ → ℕ → After
 registerBy (admission.Admitted model) st id host wait time = admittedIn st id host model wait time
-registerBy (admission.Refused r) st id host wait time = told st (checked.Refused r)
+registerBy (admission.Refused r) st id host wait time = tells st (checked.Refused r)
 
-unfoldable pub registerIn : Station → ℕ → ℕ → ModelNamed → ℕ → ℕ → Told
+unfoldable pub registerIn : Station → ℕ → ℕ → ModelNamed → ℕ → ℕ → After
 registerIn st id host model wait time = registerBy (registrationOf id host model wait time) st id host wait time
 
-unfoldable pub startIn : Station → ℕ → Command → ℕ → Moved
+unfoldable pub startIn : Station → ℕ → Command → ℕ → After
 startIn st id c now = atPlace st id (λ i. movedAt st i (startOf (motorAt st i) c now)) (unmoved st)
 
-unfoldable pub stepIn : Station → ℕ → ℕ → Moved
+unfoldable pub stepIn : Station → ℕ → ℕ → After
 stepIn st id now = atPlace st id (λ i. movedAt st i (stepOf (motorAt st i) now)) (unmoved st)
 
-unfoldable pub frameIn : Station → CanFrame → ℕ → Told
+unfoldable pub frameIn : Station → CanFrame → ℕ → After
 frameIn st f now =
-    let other = told st (checked.Refused refusal.FrameNotAccepted) in
+    let other = tells st (checked.Refused refusal.FrameNotAccepted) in
     cond (accepts (source f) f) (atPlace st (source f) (λ i. heardAt st i (heardOf (motorAt st i) f now)) other) other
 
 unfoldable pub lookIn : Station → ℕ → Looked
@@ -113,9 +120,25 @@ lookIn st id =
     atPlace st id (λ i. record { said = checked.Passed; seen = lookOf (motorAt st i) })
     (record { said = checked.Refused refusal.IdNotRegistered; seen = lookOf freeMotor })
 
-unfoldable pub removeIn : Station → ℕ → ℕ → Told
+unfoldable pub removeIn : Station → ℕ → ℕ → After
 removeIn st id now =
-    atPlace st id (λ i. removedAt (removalOf (motorAt st i) now) st i) (told st (checked.Refused refusal.IdNotRegistered))
+    atPlace st id (λ i. removedAt (removalOf (motorAt st i) now) st i) (tells st (checked.Refused refusal.IdNotRegistered))
+
+-- a look's reply; what it shows stands beside it
+abbrev pub lookedIn : Station → ℕ → After
+lookedIn st id = left st (reply (answer.Looked (lookIn st id .said)))
+
+-- what is asked: each call with its arguments
+abbrev pub callBy : Station → Call → CanFrame → After
+callBy st (call.Register id host model wait time) f = registerIn st id host model wait time
+callBy st (call.Start id c now) f = startIn st id c now
+callBy st (call.Step id now) f = stepIn st id now
+callBy st (call.Frame now) f = frameIn st f now
+callBy st (call.Look id) f = lookedIn st id
+callBy st (call.Remove id now) f = removeIn st id now
+
+unfoldable pub callIn : Station → Asked → After
+callIn st a = callBy st (a .call) (a .frame)
 
 -- ---- a station is document 01's
 
@@ -143,18 +166,14 @@ pub record Shows (st : Station) (s : List Place) : Type 0 where
 
 -- ---- the functions answer as document 01's station does
 
--- an answer, and a good station that holds what that one holds
-pub record MovedAs (r : Moved) (a : Answer × List Place) : Type 0 where
-  pub answer : says (r .said) (r .frame) (r .result) ≡ a .0
+-- a reply, and a good station that holds what that one holds
+pub record LeavesAs (r : After) (a : Reply × List Place) : Type 0 where
+  pub answer : gives (r .replied) ≡ a .0
   pub station : Shows (r .station) (a .1)
 
-pub record ToldAs (r : Told) (a : Answer × List Place) : Type 0 where
-  pub answer : answered (r .said) ≡ a .0
-  pub station : Shows (r .station) (a .1)
+abbrev pub shownBy : Checked → Seen → Reply
+shownBy checked.Passed v = shows v
+shownBy (checked.Refused n) v = gives (reply (answer.Looked (checked.Refused n)))
 
-abbrev pub shownBy : Checked → Looked → Answer
-shownBy checked.Passed r = shows (r .seen)
-shownBy (checked.Refused n) r = no n
-
-abbrev pub answerOf : Looked → Answer
-answerOf r = shownBy (r .said) r
+abbrev pub replyOf : Looked → Reply
+replyOf r = shownBy (r .said) (r .seen)

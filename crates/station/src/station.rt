@@ -1,4 +1,9 @@
 // The six calls on a station.
+use crate::call::Answer;
+use crate::call::Replied;
+use crate::call::moved;
+use crate::call::reply;
+use crate::call::told;
 use crate::place::free_motor;
 use crate::place::motor_at;
 use crate::place::place_of;
@@ -11,7 +16,6 @@ use codec::model::Model;
 use codec::protocol::ext_id_parts;
 use motor::engine::command::Command;
 use motor::engine::command::Said;
-use motor::engine::requests::no_frame;
 use motor::motor::Answered;
 use motor::motor::Motor;
 use motor::motor::Seen;
@@ -25,28 +29,20 @@ ghost use mathlib.Core.Path.{_≡_};
 ghost use mathlib.Core.List.{List};
 ghost use Prim.Native.Nat.{_<_};
 ghost use Rattle.codec.specs.Models.{modelNamed};
-ghost use Rattle.station.specs.Calls as call;
+ghost use Rattle.station.specs.Calls as asked;
 ghost use Rattle.station.specs.Station.{Place, source, empty, stationCall};
-ghost use Rattle.station.specs.Stations.{newStation, withMotor, told, movedAt, unmoved, heardAt, removedAt, admittedIn, registerIn, startIn, stepIn, frameIn, lookIn, removeIn};
-ghost use Rattle.station.specs.Stations.{Shows, MovedAs, ToldAs, answerOf};
+ghost use Rattle.station.specs.Stations.{newStation, withMotor, tells, movedAt, unmoved, heardAt, removedAt, admittedIn, registerIn, startIn, stepIn, frameIn, lookIn, removeIn};
+ghost use Rattle.station.specs.Stations.{Shows, LeavesAs, replyOf};
 
 // Eight places, each free or taken by a motor.
 pub struct Station {
     pub motors: [Motor; 8],
 }
 
-// What a start or a step answers, and the station after it.
-pub struct Moved {
+// What a call other than a look replies, and the station after it.
+pub struct After {
     pub station: Station,
-    pub said: Said,
-    pub frame: CanFrame,
-    pub result: [u8; 8],
-}
-
-// What a registration, a frame or a removal answers, and the station after it.
-pub struct Told {
-    pub station: Station,
-    pub said: Checked,
+    pub replied: Replied,
 }
 
 // What a look answers: all that the motor holds; refused, what a free place holds.
@@ -75,16 +71,17 @@ fn with_motor(st: Station, i: usize, m: Motor) -> Station
     Station { motors }
 }
 
-fn tell(station: Station, said: Checked) -> Told
-    ensures { λ r. ⌜ r ≡ told station said ⌝ }
+fn tell(station: Station, said: Checked) -> After
+    ensures { λ r. ⌜ r ≡ tells station said ⌝ }
 {
-    Told { station, said }
+    let replied = told(said);
+    After { station, replied }
 }
 
 // ---- registration: 1, 2, 3, 9, 7, 5, 4
 
 // 5 and 4; else the first free place is taken.
-fn admitted(st: Station, id: u16, host: u16, model: Model, wait: u64, time: u64) -> Told
+fn admitted(st: Station, id: u16, host: u16, model: Model, wait: u64, time: u64) -> After
     ensures { λ r. ⌜ r ≡ admittedIn st id host model wait time ⌝ }
 {
     let motors = st.motors;
@@ -100,9 +97,9 @@ fn admitted(st: Station, id: u16, host: u16, model: Model, wait: u64, time: u64)
 }
 
 // A motor is registered: its model is named by any bytes.
-pub fn register(st: Station, id: u16, host: u16, name: &[u8], wait: u64, time: u64) -> Told
+pub fn register(st: Station, id: u16, host: u16, name: &[u8], wait: u64, time: u64) -> After
     ensures is { λ r. ⌜ r ≡ registerIn st id host (modelNamed (now (name .entry))) wait time ⌝ }
-    ensures means { λ r. ⌜ ((s : List Place) → Shows st s → ToldAs r (stationCall s (call.register id host (modelNamed (now (name .entry))) wait time))) ⌝ }
+    ensures means { λ r. ⌜ ((s : List Place) → Shows st s → LeavesAs r (stationCall s (asked.register id host (modelNamed (now (name .entry))) wait time))) ⌝ }
 {
     match registration(id, host, name, wait, time) {
         Admission::Admitted(model) => return admitted(st, id, host, model, wait, time),
@@ -112,7 +109,7 @@ pub fn register(st: Station, id: u16, host: u16, name: &[u8], wait: u64, time: u
 
 // ---- start: 6, then the motor's. Step: 6, then the motor's
 
-fn moved_at(st: Station, i: usize, a: Answered) -> Moved
+fn moved_at(st: Station, i: usize, a: Answered) -> After
     requires { ⌜ i < 8 ⌝ }
     ensures { λ r. ⌜ r ≡ movedAt st i a ⌝ }
 {
@@ -121,30 +118,22 @@ fn moved_at(st: Station, i: usize, a: Answered) -> Moved
     let frame = a.frame;
     let result = a.result;
     let station = with_motor(st, i, m);
-    Moved {
-        station,
-        said,
-        frame,
-        result,
-    }
+    let replied = moved(said, frame, result);
+    After { station, replied }
 }
 
 // 6.
-fn not_moved(st: Station) -> Moved
-    ensures { λ r. ⌜ r ≡ unmoved st ⌝ }
+fn not_moved(station: Station) -> After
+    ensures { λ r. ⌜ r ≡ unmoved station ⌝ }
 {
-    Moved {
-        station: st,
-        said: Said::Refused(Refusal::IdNotRegistered),
-        frame: no_frame(),
-        result: [0; 8],
-    }
+    let replied = reply(Answer::Moved(Said::Refused(Refusal::IdNotRegistered)));
+    After { station, replied }
 }
 
 // A call starts an operation.
-pub fn start(st: Station, id: u16, command: Command, now: u64) -> Moved
+pub fn start(st: Station, id: u16, command: Command, now: u64) -> After
     ensures is { λ r. ⌜ r ≡ startIn st id command now ⌝ }
-    ensures means { λ r. ⌜ ((s : List Place) → Shows st s → MovedAs r (stationCall s (call.start id command now))) ⌝ }
+    ensures means { λ r. ⌜ ((s : List Place) → Shows st s → LeavesAs r (stationCall s (asked.start id command now))) ⌝ }
 {
     let motors = st.motors;
     let i = taken_place(motors, id);
@@ -156,9 +145,9 @@ pub fn start(st: Station, id: u16, command: Command, now: u64) -> Moved
 }
 
 // The operation goes on.
-pub fn step(st: Station, id: u16, now: u64) -> Moved
+pub fn step(st: Station, id: u16, now: u64) -> After
     ensures is { λ r. ⌜ r ≡ stepIn st id now ⌝ }
-    ensures means { λ r. ⌜ ((s : List Place) → Shows st s → MovedAs r (stationCall s (call.step id now))) ⌝ }
+    ensures means { λ r. ⌜ ((s : List Place) → Shows st s → LeavesAs r (stationCall s (asked.step id now))) ⌝ }
 {
     let motors = st.motors;
     let i = taken_place(motors, id);
@@ -179,7 +168,7 @@ pub(crate) fn source_of(frame: CanFrame) -> u16
     parts.extra_data % 256
 }
 
-fn heard_at(st: Station, i: usize, h: Heard) -> Told
+fn heard_at(st: Station, i: usize, h: Heard) -> After
     requires { ⌜ i < 8 ⌝ }
     ensures { λ r. ⌜ r ≡ heardAt st i h ⌝ }
 {
@@ -189,9 +178,9 @@ fn heard_at(st: Station, i: usize, h: Heard) -> Told
 }
 
 // A frame goes to the registered motor that accepts it.
-pub fn frame(st: Station, frame: CanFrame, now: u64) -> Told
+pub fn frame(st: Station, frame: CanFrame, now: u64) -> After
     ensures is { λ r. ⌜ r ≡ frameIn st frame now ⌝ }
-    ensures means { λ r. ⌜ ((s : List Place) → Shows st s → ToldAs r (stationCall s (call.frame frame now))) ⌝ }
+    ensures means { λ r. ⌜ ((s : List Place) → Shows st s → LeavesAs r (stationCall s (asked.frame frame now))) ⌝ }
 {
     let id = source_of(frame);
     if !accepts_frame(id, frame) {
@@ -211,7 +200,7 @@ pub fn frame(st: Station, frame: CanFrame, now: u64) -> Told
 // All that a motor holds. A look changes nothing.
 pub fn look(st: Station, id: u16) -> Looked
     ensures is { λ r. ⌜ r ≡ lookIn st id ⌝ }
-    ensures means { λ r. ⌜ ((s : List Place) → Shows st s → (answerOf r, s) ≡ stationCall s (call.look id)) ⌝ }
+    ensures means { λ r. ⌜ ((s : List Place) → Shows st s → (replyOf r, s) ≡ stationCall s (asked.look id)) ⌝ }
 {
     let motors = st.motors;
     let i = taken_place(motors, id);
@@ -232,7 +221,7 @@ pub fn look(st: Station, id: u16) -> Looked
 // ---- remove: 6, 7, 8
 
 // The place is free again where the motor may go.
-fn removed_at(st: Station, i: usize, said: Checked) -> Told
+fn removed_at(st: Station, i: usize, said: Checked) -> After
     requires { ⌜ i < 8 ⌝ }
     ensures { λ r. ⌜ r ≡ removedAt said st i ⌝ }
 {
@@ -243,9 +232,9 @@ fn removed_at(st: Station, i: usize, said: Checked) -> Told
 }
 
 // A motor is removed.
-pub fn remove(st: Station, id: u16, now: u64) -> Told
+pub fn remove(st: Station, id: u16, now: u64) -> After
     ensures is { λ r. ⌜ r ≡ removeIn st id now ⌝ }
-    ensures means { λ r. ⌜ ((s : List Place) → Shows st s → ToldAs r (stationCall s (call.remove id now))) ⌝ }
+    ensures means { λ r. ⌜ ((s : List Place) → Shows st s → LeavesAs r (stationCall s (asked.remove id now))) ⌝ }
 {
     let motors = st.motors;
     let i = taken_place(motors, id);

@@ -21,22 +21,26 @@ use Rattle.motor.specs.declared.motor.Motor.{Motor}
 use Rattle.motor.specs.declared.registration.Admission.{Admission}
 use Rattle.motor.specs.declared.registration.Admission.the-variants as admission
 use Rattle.motor.specs.Calls.{registerNumbers, registeredBy, registrationOf}
-use Rattle.motor.specs.Motors.{newMotor, startOf, stepOf, removalOf}
+use Rattle.motor.specs.Motors.{newMotor, startOf, stepOf, lookOf, removalOf}
 use Rattle.motor.specs.Numbers.{firstOf}
 use Rattle.motor.specs.Receive.{accepts, isRead, heardOf}
 use Rattle.motor.proofs.Receiving.{heard-quiet}
 use Rattle.motor.proofs.Editing.{heard-read}
-use Rattle.station.specs.declared.lent.call.Ask.{Ask}
-use Rattle.station.specs.declared.lent.call.Ask.the-variants as ask
-use Rattle.station.specs.declared.lent.call.Asked.{Asked}
-use Rattle.station.specs.declared.lent.call.Replied.{Replied}
+use Rattle.station.specs.declared.call.Asked.{Asked}
+use Rattle.station.specs.declared.call.Call.{Call}
+use Rattle.station.specs.declared.call.Call.the-variants as call
+use Rattle.station.specs.declared.call.Replied.{Replied}
 use Rattle.station.specs.declared.lent.route.Route.{Route}
+use Rattle.station.specs.declared.station.After.{After}
+use Rattle.station.specs.declared.station.Looked.{Looked}
 use Rattle.station.specs.declared.station.Station.{Station}
+use Rattle.station.specs.declared.call.Answer.the-variants as answer
+use Rattle.station.specs.Calls.{timeOf, reply, refused}
 use Rattle.station.specs.Station.{source}
-use Rattle.station.specs.Stations.{freeMotor, indexOf, takenPlace, motorAt, withMotor, atPlace, movedAt, unmoved, enteredIn, admittedIn, registerBy, registerIn, startIn, stepIn, frameIn, removeIn}
+use Rattle.station.specs.Stations.{freeMotor, indexOf, takenPlace, motorAt, withMotor, atPlace, left, tells, movedAt, unmoved, lookedIn, enteredIn, admittedIn, registerBy, registerIn, startIn, stepIn, frameIn, lookIn, removeIn, callBy, callIn}
 use Rattle.station.specs.Stations as stations
 use Rattle.station.proofs.lent.IdIndex.{same-index, same-place}
-use Rattle.station.specs.lent.Lent.{told, moved, removedAt, repliedTo, stationAt, replyIn, stationIn, idsOf, indexIn, takenIn, routeAt, nowhere, routeTo, routeFree, routeNew, routeFrame, routeBy, routeOf, visitedBy, visitedOf, keptBy, keptOf, editedOf, editedMotor}
+use Rattle.station.specs.lent.Lent.{removedAt, idsOf, indexIn, takenIn, routeAt, nowhere, routeTo, routeFree, routeNew, routeFrame, routeBy, routeOf, visitedBy, visitedOf, keptBy, keptOf, editedOf, editedMotor}
 
 -- a station with a place left as it was is the same station
 same-station : (st : Station) (i : ℕ) → withMotor st i (motorAt st i) ≡ st
@@ -45,10 +49,10 @@ same-station st i = ap (λ (ms : List Motor). record { motors = ms }) (set-getD 
 -- ---- each call at its place
 
 -- a call that goes this way gives this reply and this station
-abbrev Done : Station → Route → Ask → CanFrame → Replied → Station → Type 0
-Done st r k f reply after =
-    (visitedBy (r .said) (motorAt st (r .«at»)) (record { ask = k; frame = f }) .replied ≡ reply)
-    × (withMotor st (r .«at») (visitedBy (r .said) (motorAt st (r .«at»)) (record { ask = k; frame = f }) .motor) ≡ after)
+abbrev Done : Station → Route → Call → CanFrame → After → Type 0
+Done st r c f x =
+    (visitedBy (r .said) (motorAt st (r .«at»)) (record { call = c; frame = f }) .replied ≡ x .replied)
+    × (withMotor st (r .«at») (visitedBy (r .said) (motorAt st (r .«at»)) (record { call = c; frame = f }) .motor) ≡ x .station)
 
 module _ (st : Station) (f : CanFrame) where
   abbrev taken : ℕ → ℕ
@@ -56,19 +60,18 @@ module _ (st : Station) (f : CanFrame) where
 
   -- a removal that is refused leaves the motor
   removed-done : (k : Checked) (i : ℕ)
-      → (removedAt (motorAt st i) k .replied ≡ told (stations.removedAt k st i .said))
+      → (removedAt (motorAt st i) k .replied ≡ stations.removedAt k st i .replied)
       × (withMotor st i (removedAt (motorAt st i) k .motor) ≡ stations.removedAt k st i .station)
   removed-done checked.Passed i = (refl, refl)
   removed-done (checked.Refused r) i = (refl, same-station st i)
 
   -- 5 and 4
   free-done : (id host : ℕ) (model : Model) (wait time : ℕ) (b d : Bool) (i : ℕ)
-      → let r = cond b (nowhere refusal.IdRegistered) (cond d (routeAt i false false) (nowhere refusal.StationFull)) in
-      let t =
-      cond b (stations.told st (checked.Refused refusal.IdRegistered))
-      (cond d (stations.told (withMotor st i (newMotor id host model wait time)) checked.Passed) (stations.told st (checked.Refused refusal.StationFull)))
-      in
-      Done st r (ask.Register id host (named.Known model) wait time) f (told (t .said)) (t .station)
+      → Done st (cond b (nowhere refusal.IdRegistered) (cond d (routeAt i false false) (nowhere refusal.StationFull)))
+      (call.Register id host (named.Known model) wait time) f
+      (cond b (tells st (checked.Refused refusal.IdRegistered))
+      (cond d (tells (withMotor st i (newMotor id host model wait time)) checked.Passed) (tells st (checked.Refused refusal.StationFull))))
+  unfolding refused
   free-done id host model wait time true d i = (refl, same-station st 0)
   free-done id host model wait time false true i = (refl, refl)
   free-done id host model wait time false false i = (refl, same-station st 0)
@@ -77,83 +80,77 @@ module _ (st : Station) (f : CanFrame) where
     abbrev ids : List ℕ
     ids = idsOf (st .motors)
 
-    start-done : (id : ℕ) (c : Command) (time : ℕ)
-        → Done st (routeTo ids id refusal.IdNotRegistered false false) (ask.Start id c time) f (moved (startIn st id c time)) (startIn st id c time .station)
-    unfolding routeTo startIn atPlace
-    start-done id c time = rw (same-place (st .motors) id eight) (go (ltb (taken id) 8))
+    -- a call to the place of an id: what is done there, or 6
+    to-done : (id : ℕ) (c : Call) (found : ℕ → After) (none : After)
+        → ((i : ℕ) → Done st (routeAt i false false) c f (found i)) → Done st (nowhere refusal.IdNotRegistered) c f none
+        → Done st (routeTo ids id refusal.IdNotRegistered false false) c f (atPlace st id found none)
+    unfolding routeTo atPlace
+    to-done id c found none there nothing = rw (same-place (st .motors) id eight) (go (ltb (taken id) 8))
       where
         go : (b : Bool)
-            → let m = cond b (movedAt st (taken id) (startOf (motorAt st (taken id)) c time)) (unmoved st) in
-            Done st (cond b (routeAt (taken id) false false) (nowhere refusal.IdNotRegistered)) (ask.Start id c time) f (moved m) (m .station)
-        go true = (refl, refl)
-        go false = (refl, same-station st 0)
+            → Done st (cond b (routeAt (taken id) false false) (nowhere refusal.IdNotRegistered)) c f (cond b (found (taken id)) none)
+        go true = there (taken id)
+        go false = nothing
 
-    step-done : (id time : ℕ)
-        → Done st (routeTo ids id refusal.IdNotRegistered false false) (ask.Step id time) f (moved (stepIn st id time)) (stepIn st id time .station)
-    unfolding routeTo stepIn atPlace
-    step-done id time = rw (same-place (st .motors) id eight) (go (ltb (taken id) 8))
-      where
-        go : (b : Bool)
-            → let m = cond b (movedAt st (taken id) (stepOf (motorAt st (taken id)) time)) (unmoved st) in
-            Done st (cond b (routeAt (taken id) false false) (nowhere refusal.IdNotRegistered)) (ask.Step id time) f (moved m) (m .station)
-        go true = (refl, refl)
-        go false = (refl, same-station st 0)
-
-    remove-done : (id time : ℕ)
-        → Done st (routeTo ids id refusal.IdNotRegistered false false) (ask.Remove id time) f (told (removeIn st id time .said)) (removeIn st id time .station)
-    unfolding routeTo removeIn atPlace
-    remove-done id time = rw (same-place (st .motors) id eight) (go (ltb (taken id) 8))
-      where
-        go : (b : Bool)
-            → let t =
-            cond b (stations.removedAt (removalOf (motorAt st (taken id)) time) st (taken id))
-            (stations.told st (checked.Refused refusal.IdNotRegistered))
-            in
-            Done st (cond b (routeAt (taken id) false false) (nowhere refusal.IdNotRegistered)) (ask.Remove id time) f (told (t .said)) (t .station)
-        go true = removed-done (removalOf (motorAt st (taken id)) time) (taken id)
-        go false = (refl, same-station st 0)
-
-    frame-done : (time : ℕ) → Done st (routeFrame ids f) (ask.Frame time) f (told (frameIn st f time .said)) (frameIn st f time .station)
-    unfolding routeFrame routeTo frameIn atPlace
+    frame-done : (time : ℕ) → Done st (routeFrame ids f) (call.Frame time) f (frameIn st f time)
+    unfolding routeFrame routeTo frameIn atPlace refused
     frame-done time = rw (same-place (st .motors) (source f) eight) (go (accepts (source f) f) (ltb (taken (source f)) 8))
       where
         go : (a b : Bool)
             → let i = taken (source f) in
-            let other = stations.told st (checked.Refused refusal.FrameNotAccepted) in
+            let other = tells st (checked.Refused refusal.FrameNotAccepted) in
             let t = cond a (cond b (stations.heardAt st i (heardOf (motorAt st i) f time)) other) other in
             let r = cond a (cond b (routeAt i (not (isRead f)) (isRead f)) (nowhere refusal.FrameNotAccepted)) (nowhere refusal.FrameNotAccepted) in
-            Done st r (ask.Frame time) f (told (t .said)) (t .station)
+            Done st r (call.Frame time) f t
         go true true = (refl, refl)
         go true false = (refl, same-station st 0)
         go false b = (refl, same-station st 0)
 
+    -- a look leaves the motor, and says whether there is one
+    look-done : (id : ℕ) → Done st (routeTo ids id refusal.IdNotRegistered false false) (call.Look id) f (lookedIn st id)
+    unfolding routeTo lookIn atPlace refused
+    look-done id = rw (same-place (st .motors) id eight) (go (ltb (taken id) 8))
+      where
+        shows : Bool → Looked
+        shows b = cond b (record { said = checked.Passed; seen = lookOf (motorAt st (taken id)) }) (record { said = checked.Refused refusal.IdNotRegistered; seen = lookOf freeMotor })
+
+        go : (b : Bool)
+            → Done st (cond b (routeAt (taken id) false false) (nowhere refusal.IdNotRegistered)) (call.Look id) f
+            (left st (reply (answer.Looked (shows b .said))))
+        go true = (refl, same-station st (taken id))
+        go false = (refl, same-station st 0)
+
     admitted-done : (id host : ℕ) (model : Model) (wait time : ℕ)
-        → let t = admittedIn st id host model wait time in
-        Done st (routeFree ids id) (ask.Register id host (named.Known model) wait time) f (told (t .said)) (t .station)
+        → Done st (routeFree ids id) (call.Register id host (named.Known model) wait time) f (admittedIn st id host model wait time)
     unfolding routeFree admittedIn enteredIn atPlace
     admitted-done id host model wait time =
         rw (same-place (st .motors) id eight, same-index (st .motors) 0 eight)
         (free-done id host model wait time (ltb (taken id) 8) (ltb (indexOf (st .motors) 0) 8) (indexOf (st .motors) 0))
 
     register-done : (id host : ℕ) (model : ModelNamed) (wait time : ℕ)
-        → let t = registerIn st id host model wait time in
-        Done st (routeNew ids id (registrationOf id host model wait time)) (ask.Register id host model wait time) f (told (t .said)) (t .station)
-    unfolding registerIn
+        → Done st (routeNew ids id (registrationOf id host model wait time)) (call.Register id host model wait time) f (registerIn st id host model wait time)
+    unfolding registerIn refused
     register-done id host model wait time = go (firstOf (registerNumbers id host model wait time)) model
       where
         go : (k : Checked) (model : ModelNamed)
-            → let t = registerBy (registeredBy k model) st id host wait time in
-            Done st (routeNew ids id (registeredBy k model)) (ask.Register id host model wait time) f (told (t .said)) (t .station)
+            → Done st (routeNew ids id (registeredBy k model)) (call.Register id host model wait time) f (registerBy (registeredBy k model) st id host wait time)
         go checked.Passed (named.Known m) = admitted-done id host m wait time
         go checked.Passed named.Unknown = (refl, same-station st 0)
         go (checked.Refused r) model = (refl, same-station st 0)
 
-    done : (k : Ask) → Done st (routeBy ids k f) k f (repliedTo st k f) (stationAt st k f)
-    done (ask.Register id host model wait time) = register-done id host model wait time
-    done (ask.Start id c time) = start-done id c time
-    done (ask.Step id time) = step-done id time
-    done (ask.Frame time) = frame-done time
-    done (ask.Remove id time) = remove-done id time
+    done : (c : Call) → Done st (routeBy ids c f) c f (callBy st c f)
+    unfolding startIn stepIn removeIn refused
+    done (call.Register id host model wait time) = register-done id host model wait time
+    done (call.Start id c time) =
+        to-done id (call.Start id c time) (λ i. movedAt st i (startOf (motorAt st i) c time)) (unmoved st) (λ i. (refl, refl)) (refl, same-station st 0)
+    done (call.Step id time) =
+        to-done id (call.Step id time) (λ i. movedAt st i (stepOf (motorAt st i) time)) (unmoved st) (λ i. (refl, refl)) (refl, same-station st 0)
+    done (call.Frame time) = frame-done time
+    done (call.Look id) = look-done id
+    done (call.Remove id time) =
+        to-done id (call.Remove id time) (λ i. stations.removedAt (removalOf (motorAt st i) time) st i) (tells st (checked.Refused refusal.IdNotRegistered))
+        (λ i. removed-done (removalOf (motorAt st i) time) i)
+        (refl, same-station st 0)
 
 -- ---- where a call can go: nowhere, to a place, or, a frame, to a place that is quiet or edits
 
@@ -191,18 +188,19 @@ module _ (f : CanFrame) (ids : List ℕ) (Φ : Route → Type 0) (at-none : (r :
       go true false = at-none refusal.FrameNotAccepted
       go false b = at-none refusal.FrameNotAccepted
 
-  goes : (k : Ask) → ((time i : ℕ) → k ≡ ask.Frame time → Φ (routeAt i (not (isRead f)) (isRead f))) → Φ (routeBy ids k f)
-  goes (ask.Register id host model wait time) heard = at-new id (registrationOf id host model wait time)
-  goes (ask.Start id c time) heard = at-place id refusal.IdNotRegistered
-  goes (ask.Step id time) heard = at-place id refusal.IdNotRegistered
-  goes (ask.Frame time) heard = at-frame (λ i. heard time i refl)
-  goes (ask.Remove id time) heard = at-place id refusal.IdNotRegistered
+  goes : (k : Call) → ((time i : ℕ) → k ≡ call.Frame time → Φ (routeAt i (not (isRead f)) (isRead f))) → Φ (routeBy ids k f)
+  goes (call.Register id host model wait time) heard = at-new id (registrationOf id host model wait time)
+  goes (call.Start id c time) heard = at-place id refusal.IdNotRegistered
+  goes (call.Step id time) heard = at-place id refusal.IdNotRegistered
+  goes (call.Frame time) heard = at-frame (λ i. heard time i refl)
+  goes (call.Look id) heard = at-place id refusal.IdNotRegistered
+  goes (call.Remove id time) heard = at-place id refusal.IdNotRegistered
 
 -- ---- a quiet call leaves the readings, and one that edits stores what it changes of them
 
-module _ (k : Ask) (f : CanFrame) where
+module _ (k : Call) (f : CanFrame) where
   abbrev asked : Asked
-  asked = record { ask = k; frame = f }
+  asked = record { call = k; frame = f }
 
   -- this reply and this motor are those of the call by value
   abbrev Same : Route → Motor → Replied → Motor → Type 0
@@ -217,57 +215,58 @@ module _ (k : Ask) (f : CanFrame) where
   Edits r = r .edits ≡ true → (m : Motor) → Same r m (editedOf m asked .replied) (editedMotor m (editedOf m asked))
 
   quiets : (ids : List ℕ) → Quiet (routeBy ids k f)
+  unfolding timeOf
   quiets ids = goes f ids Quiet (λ r q m. (refl, refl)) (λ i q m. absurd (true≢false (sym q))) k heard
     where
-      heard : (time i : ℕ) → k ≡ ask.Frame time → Quiet (routeAt i (not (isRead f)) (isRead f))
+      heard : (time i : ℕ) → k ≡ call.Frame time → Quiet (routeAt i (not (isRead f)) (isRead f))
       heard time i e q m = rw (e, heard-quiet m f time (not-true (isRead f) q)) (refl, refl)
 
   edits : (ids : List ℕ) → Edits (routeBy ids k f)
-  unfolding editedOf
+  unfolding editedOf timeOf
   edits ids = goes f ids Edits (λ r q m. absurd (true≢false (sym q))) (λ i q m. absurd (true≢false (sym q))) k heard
     where
-      heard : (time i : ℕ) → k ≡ ask.Frame time → Edits (routeAt i (not (isRead f)) (isRead f))
+      heard : (time i : ℕ) → k ≡ call.Frame time → Edits (routeAt i (not (isRead f)) (isRead f))
       heard time i e q m = rw (e, heard-read m f time q) (refl, refl)
 
 -- ---- the by-value call
 
 module _ (st : Station) (eight : length (st .motors) ≡ 8) (a : Asked) (r : Route) (e : r ≡ routeOf (idsOf (st .motors)) a) where
-  pub full : (visitedOf (getD (st .motors) (r .«at») freeMotor) a r .replied ≡ replyIn st a)
-      × (_≡_ {A = Station} (record { motors = set (st .motors) (r .«at») (visitedOf (getD (st .motors) (r .«at») freeMotor) a r .motor) }) (stationIn st a))
-  unfolding visitedOf replyIn stationIn routeOf
-  full = rw e (done st (a .frame) eight (a .ask))
+  pub full : (visitedOf (getD (st .motors) (r .«at») freeMotor) a r .replied ≡ callIn st a .replied)
+      × (_≡_ {A = Station} (record { motors = set (st .motors) (r .«at») (visitedOf (getD (st .motors) (r .«at») freeMotor) a r .motor) }) (callIn st a .station))
+  unfolding visitedOf callIn routeOf
+  full = rw e (done st (a .frame) eight (a .call))
 
   -- what is left at the place, by whichever way, is what the call by value leaves there
-  left : (reply : Replied) (m : Motor) → (reply ≡ visitedOf (motorAt st (r .«at»)) a r .replied) × (m ≡ visitedOf (motorAt st (r .«at»)) a r .motor)
-      → (reply ≡ replyIn st a) × (withMotor st (r .«at») m ≡ stationIn st a)
-  left reply m same = (same .0 ∙ full .0, ap (λ (x : Motor). withMotor st (r .«at») x) (same .1) ∙ full .1)
+  left-there : (reply : Replied) (m : Motor) → (reply ≡ visitedOf (motorAt st (r .«at»)) a r .replied) × (m ≡ visitedOf (motorAt st (r .«at»)) a r .motor)
+      → (reply ≡ callIn st a .replied) × (withMotor st (r .«at») m ≡ callIn st a .station)
+  left-there reply m same = (same .0 ∙ full .0, ap (λ (x : Motor). withMotor st (r .«at») x) (same .1) ∙ full .1)
 
   same-kept : r .quiet ≡ true
       → (keptOf (motorAt st (r .«at») .state) a r .replied ≡ visitedOf (motorAt st (r .«at»)) a r .replied)
       × (_≡_ {A = Motor} (record { state = keptOf (motorAt st (r .«at») .state) a r .state; readings = motorAt st (r .«at») .readings }) (visitedOf (motorAt st (r .«at»)) a r .motor))
   unfolding visitedOf keptOf routeOf
-  same-kept = rw e (λ q. quiets (a .ask) (a .frame) (idsOf (st .motors)) q (motorAt st (routeOf (idsOf (st .motors)) a .«at»)))
+  same-kept = rw e (λ q. quiets (a .call) (a .frame) (idsOf (st .motors)) q (motorAt st (routeOf (idsOf (st .motors)) a .«at»)))
 
   same-edited : r .edits ≡ true
       → (editedOf (motorAt st (r .«at»)) a .replied ≡ visitedOf (motorAt st (r .«at»)) a r .replied)
       × (editedMotor (motorAt st (r .«at»)) (editedOf (motorAt st (r .«at»)) a) ≡ visitedOf (motorAt st (r .«at»)) a r .motor)
   unfolding visitedOf routeOf
-  same-edited = rw e (λ q. edits (a .ask) (a .frame) (idsOf (st .motors)) q (motorAt st (routeOf (idsOf (st .motors)) a .«at»)))
+  same-edited = rw e (λ q. edits (a .call) (a .frame) (idsOf (st .motors)) q (motorAt st (routeOf (idsOf (st .motors)) a .«at»)))
 
   pub quiet : r .quiet ≡ true
-      → (keptOf (getD (st .motors) (r .«at») freeMotor .state) a r .replied ≡ replyIn st a)
+      → (keptOf (getD (st .motors) (r .«at») freeMotor .state) a r .replied ≡ callIn st a .replied)
       × (_≡_ {A = Station}
       (record {
         motors =
             set (st .motors) (r .«at»)
             (record { state = keptOf (getD (st .motors) (r .«at») freeMotor .state) a r .state; readings = getD (st .motors) (r .«at») freeMotor .readings });
       })
-      (stationIn st a))
-  quiet q = left _ _ (same-kept q)
+      (callIn st a .station))
+  quiet q = left-there _ _ (same-kept q)
 
   pub edit : r .edits ≡ true
-      → (editedOf (getD (st .motors) (r .«at») freeMotor) a .replied ≡ replyIn st a)
+      → (editedOf (getD (st .motors) (r .«at») freeMotor) a .replied ≡ callIn st a .replied)
       × (_≡_ {A = Station}
       (record { motors = set (st .motors) (r .«at») (editedMotor (getD (st .motors) (r .«at») freeMotor) (editedOf (getD (st .motors) (r .«at») freeMotor) a)) })
-      (stationIn st a))
-  edit q = left _ _ (same-edited q)
+      (callIn st a .station))
+  edit q = left-there _ _ (same-edited q)

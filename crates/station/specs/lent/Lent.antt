@@ -1,4 +1,4 @@
--- A lent station: what is asked and replied in numbers and enums, where a call goes, and what it leaves there. Definitions only.
+-- A lent station: where a call goes, and what it leaves there. Definitions only.
 use Prim.Native.Nat.{ℕ, zero, suc}
 use mathlib.Core.Bool.{Bool, true, false, cond, not}
 use mathlib.Core.List.{List, [], _∷_}
@@ -11,9 +11,6 @@ use Rattle.codec.specs.declared.error.Refusal.{Refusal}
 use Rattle.codec.specs.declared.error.Refusal.the-variants as refusal
 use Rattle.codec.specs.declared.model.ModelNamed.{ModelNamed}
 use Rattle.codec.specs.declared.model.ModelNamed.the-variants as named
-use Rattle.codec.specs.Replies.{zeros}
-use Rattle.motor.specs.declared.engine.command.Said.the-variants as said
-use Rattle.motor.specs.engine.Requests.{noFrame}
 use Rattle.motor.specs.declared.motor.Answered.{Answered}
 use Rattle.motor.specs.declared.motor.Motor.{Motor}
 use Rattle.motor.specs.declared.motor.State.{State}
@@ -25,51 +22,23 @@ use Rattle.motor.specs.Calls.{registrationOf}
 use Rattle.motor.specs.Edits.{edited, readHeard}
 use Rattle.motor.specs.Motors.{newMotor, startOf, stepOf, removalOf}
 use Rattle.motor.specs.Receive.{accepts, isRead, heardOf, stateHeard}
-use Rattle.station.specs.declared.lent.call.Ask.{Ask}
-use Rattle.station.specs.declared.lent.call.Ask.the-variants as ask
-use Rattle.station.specs.declared.lent.call.Asked.{Asked}
-use Rattle.station.specs.declared.lent.call.Reply.the-variants as reply
-use Rattle.station.specs.declared.lent.call.Replied.{Replied}
+use Rattle.station.specs.declared.call.Answer.the-variants as answer
+use Rattle.station.specs.declared.call.Asked.{Asked}
+use Rattle.station.specs.declared.call.Call.{Call}
+use Rattle.station.specs.declared.call.Call.the-variants as call
+use Rattle.station.specs.declared.call.Replied.{Replied}
 use Rattle.station.specs.declared.lent.route.Route.{Route}
 use Rattle.station.specs.declared.lent.visit.Visited.{Visited}
 use Rattle.station.specs.declared.lent.visit.Kept.{Kept}
 use Rattle.station.specs.declared.lent.visit.Edited.{Edited}
-use Rattle.station.specs.declared.station.Moved.{Moved}
 use Rattle.station.specs.declared.station.Station.{Station}
+use Rattle.station.specs.Calls.{timeOf, reply, told, moved, refused}
 use Rattle.station.specs.Station.{source}
-use Rattle.station.specs.Stations.{freeMotor, registerIn, startIn, stepIn, frameIn, removeIn}
-
--- ---- the promise: the by-value calls' answers and stations
+use Rattle.station.specs.Stations.{freeMotor}
 
 -- a station is its eight places
 abbrev pub stationOf : List Motor → Station
 stationOf ms = record { motors = ms }
-
-abbrev pub told : Checked → Replied
-told c = record { reply = reply.Told c; frame = noFrame; result = zeros }
-
-abbrev pub moved : Moved → Replied
-moved m = record { reply = reply.Moved (m .said); frame = m .frame; result = m .result }
-
-abbrev pub repliedTo : Station → Ask → CanFrame → Replied
-repliedTo st (ask.Register id host model wait time) f = told (registerIn st id host model wait time .said)
-repliedTo st (ask.Start id command time) f = moved (startIn st id command time)
-repliedTo st (ask.Step id time) f = moved (stepIn st id time)
-repliedTo st (ask.Frame time) f = told (frameIn st f time .said)
-repliedTo st (ask.Remove id time) f = told (removeIn st id time .said)
-
-abbrev pub stationAt : Station → Ask → CanFrame → Station
-stationAt st (ask.Register id host model wait time) f = registerIn st id host model wait time .station
-stationAt st (ask.Start id command time) f = startIn st id command time .station
-stationAt st (ask.Step id time) f = stepIn st id time .station
-stationAt st (ask.Frame time) f = frameIn st f time .station
-stationAt st (ask.Remove id time) f = removeIn st id time .station
-
-unfoldable pub replyIn : Station → Asked → Replied
-replyIn st a = repliedTo st (a .ask) (a .frame)
-
-unfoldable pub stationIn : Station → Asked → Station
-stationIn st a = stationAt st (a .ask) (a .frame)
 
 -- ---- where a call goes
 
@@ -116,33 +85,24 @@ unfoldable pub routeFrame : List ℕ → CanFrame → Route
 routeFrame ids f =
     cond (accepts (source f) f) (routeTo ids (source f) refusal.FrameNotAccepted (not (isRead f)) (isRead f)) (nowhere refusal.FrameNotAccepted)
 
-abbrev pub routeBy : List ℕ → Ask → CanFrame → Route
-routeBy ids (ask.Register id host model wait time) f = routeNew ids id (registrationOf id host model wait time)
-routeBy ids (ask.Start id command time) f = routeTo ids id refusal.IdNotRegistered false false
-routeBy ids (ask.Step id time) f = routeTo ids id refusal.IdNotRegistered false false
-routeBy ids (ask.Frame time) f = routeFrame ids f
-routeBy ids (ask.Remove id time) f = routeTo ids id refusal.IdNotRegistered false false
+abbrev pub routeBy : List ℕ → Call → CanFrame → Route
+routeBy ids (call.Register id host model wait time) f = routeNew ids id (registrationOf id host model wait time)
+routeBy ids (call.Start id command time) f = routeTo ids id refusal.IdNotRegistered false false
+routeBy ids (call.Step id time) f = routeTo ids id refusal.IdNotRegistered false false
+routeBy ids (call.Frame time) f = routeFrame ids f
+routeBy ids (call.Look id) f = routeTo ids id refusal.IdNotRegistered false false
+routeBy ids (call.Remove id time) f = routeTo ids id refusal.IdNotRegistered false false
 
 unfoldable pub routeOf : List ℕ → Asked → Route
-routeOf ids a = routeBy ids (a .ask) (a .frame)
+routeOf ids a = routeBy ids (a .call) (a .frame)
 
 -- ---- what it leaves at its place
-
-abbrev pub notMoved : Refusal → Replied
-notMoved r = record { reply = reply.Moved (said.Refused r); frame = noFrame; result = zeros }
-
-abbrev pub refused : Ask → Refusal → Replied
-refused (ask.Register id host model wait time) r = told (checked.Refused r)
-refused (ask.Start id command time) r = notMoved r
-refused (ask.Step id time) r = notMoved r
-refused (ask.Frame time) r = told (checked.Refused r)
-refused (ask.Remove id time) r = told (checked.Refused r)
 
 abbrev pub visited : Motor → Replied → Visited
 visited m r = record { motor = m; replied = r }
 
 abbrev pub answeredAt : Answered → Visited
-answeredAt a = record { motor = a .motor; replied = record { reply = reply.Moved (a .said); frame = a .frame; result = a .result } }
+answeredAt a = visited (a .motor) (moved (a .said) (a .frame) (a .result))
 
 abbrev pub heardAt : Heard → Visited
 heardAt h = visited (h .motor) (told (h .said))
@@ -156,28 +116,22 @@ abbrev pub enteredAt : Motor → ℕ → ℕ → ModelNamed → ℕ → ℕ → 
 enteredAt m id host (named.Known model) wait time = visited (newMotor id host model wait time) (told checked.Passed)
 enteredAt m id host named.Unknown wait time = visited m (told (checked.Refused refusal.UnknownModel))
 
-abbrev pub doneBy : Motor → Ask → CanFrame → Visited
-doneBy m (ask.Register id host model wait time) f = enteredAt m id host model wait time
-doneBy m (ask.Start id command time) f = answeredAt (startOf m command time)
-doneBy m (ask.Step id time) f = answeredAt (stepOf m time)
-doneBy m (ask.Frame time) f = heardAt (heardOf m f time)
-doneBy m (ask.Remove id time) f = removedAt m (removalOf m time)
+abbrev pub doneBy : Motor → Call → CanFrame → Visited
+doneBy m (call.Register id host model wait time) f = enteredAt m id host model wait time
+doneBy m (call.Start id command time) f = answeredAt (startOf m command time)
+doneBy m (call.Step id time) f = answeredAt (stepOf m time)
+doneBy m (call.Frame time) f = heardAt (heardOf m f time)
+doneBy m (call.Look id) f = visited m (reply (answer.Looked checked.Passed))
+doneBy m (call.Remove id time) f = removedAt m (removalOf m time)
 
 abbrev pub visitedBy : Checked → Motor → Asked → Visited
-visitedBy checked.Passed m a = doneBy m (a .ask) (a .frame)
-visitedBy (checked.Refused r) m a = visited m (refused (a .ask) r)
+visitedBy checked.Passed m a = doneBy m (a .call) (a .frame)
+visitedBy (checked.Refused r) m a = visited m (refused (a .call) r)
 
 unfoldable pub visitedOf : Motor → Asked → Route → Visited
 visitedOf m a r = visitedBy (r .said) m a
 
 -- ---- the same of a quiet call: a frame that is no read reply, or a call that goes nowhere
-
-abbrev pub timeOf : Ask → ℕ
-timeOf (ask.Register id host model wait time) = time
-timeOf (ask.Start id command time) = time
-timeOf (ask.Step id time) = time
-timeOf (ask.Frame time) = time
-timeOf (ask.Remove id time) = time
 
 abbrev pub kept : State → Replied → Kept
 kept s r = record { state = s; replied = r }
@@ -186,8 +140,8 @@ abbrev pub keptHeard : StateHeard → Kept
 keptHeard h = kept (h .state) (told (h .said))
 
 abbrev pub keptBy : Checked → State → Asked → Kept
-keptBy checked.Passed s a = keptHeard (stateHeard s (a .frame) (timeOf (a .ask)))
-keptBy (checked.Refused r) s a = kept s (refused (a .ask) r)
+keptBy checked.Passed s a = keptHeard (stateHeard s (a .frame) (timeOf (a .call)))
+keptBy (checked.Refused r) s a = kept s (refused (a .call) r)
 
 unfoldable pub keptOf : State → Asked → Route → Kept
 keptOf s a r = keptBy (r .said) s a
@@ -196,7 +150,7 @@ keptOf s a r = keptBy (r .said) s a
 
 unfoldable pub editedOf : Motor → Asked → Edited
 editedOf m a =
-    let h = readHeard m (a .frame) (timeOf (a .ask)) in
+    let h = readHeard m (a .frame) (timeOf (a .call)) in
     record { state = h .state; edit = h .edit; replied = told (h .said) }
 
 -- the motor once an edit is stored

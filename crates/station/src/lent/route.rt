@@ -1,6 +1,6 @@
 // Where a call on a lent station goes.
-use crate::lent::call::Ask;
-use crate::lent::call::Asked;
+use crate::call::Asked;
+use crate::call::Call;
 use crate::station::source_of;
 use codec::bus::CanFrame;
 use codec::error::Checked;
@@ -119,22 +119,23 @@ fn route_frame(ids: [u16; 8], frame: CanFrame) -> Route
 pub(super) fn routed(ids: [u16; 8], asked: Asked) -> Route
     ensures { λ r. ⌜ (r ≡ spec.routeOf ids asked) × (r .at < 8) ⌝ }
 {
-    let ask = asked.ask;
-    match ask {
-        Ask::Register {
+    let call = asked.call;
+    match call {
+        Call::Register {
             id,
             host,
             model,
             wait,
             time,
         } => route_new(ids, id, registration_of(id, host, model, wait, time)),
-        Ask::Start {
+        Call::Start {
             id,
             command: _,
             time: _,
         } => route_to(ids, id, Refusal::IdNotRegistered, false, false),
-        Ask::Step { id, time: _ } => route_to(ids, id, Refusal::IdNotRegistered, false, false),
-        Ask::Frame { time: _ } => route_frame(ids, asked.frame),
-        Ask::Remove { id, time: _ } => route_to(ids, id, Refusal::IdNotRegistered, false, false),
+        Call::Step { id, time: _ } => route_to(ids, id, Refusal::IdNotRegistered, false, false),
+        Call::Frame { time: _ } => route_frame(ids, asked.frame),
+        Call::Look { id } => route_to(ids, id, Refusal::IdNotRegistered, false, false),
+        Call::Remove { id, time: _ } => route_to(ids, id, Refusal::IdNotRegistered, false, false),
     }
 }

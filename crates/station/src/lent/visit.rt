@@ -1,8 +1,13 @@
 // What a call on a lent station leaves at its place, and its reply.
-use crate::lent::call::Ask;
-use crate::lent::call::Asked;
-use crate::lent::call::Replied;
-use crate::lent::call::Reply;
+use crate::call::Answer;
+use crate::call::Asked;
+use crate::call::Call;
+use crate::call::Replied;
+use crate::call::moved;
+use crate::call::refused;
+use crate::call::reply;
+use crate::call::time_of;
+use crate::call::told;
 use crate::lent::route::Route;
 use crate::place::free_motor;
 use codec::error::Checked;
@@ -11,8 +16,6 @@ use codec::model::ModelNamed;
 use motor::edits::Edit;
 use motor::edits::ReadHeard;
 use motor::edits::hear_read;
-use motor::engine::command::Said;
-use motor::engine::requests::no_frame;
 use motor::motor::Answered;
 use motor::motor::Motor;
 use motor::motor::State;
@@ -44,51 +47,6 @@ pub struct Edited {
     pub replied: Replied,
 }
 
-// ---- replies
-
-fn told(said: Checked) -> Replied
-    ensures { λ r. ⌜ r ≡ spec.told said ⌝ }
-{
-    Replied {
-        reply: Reply::Told(said),
-        frame: no_frame(),
-        result: [0; 8],
-    }
-}
-
-fn not_moved(refusal: Refusal) -> Replied
-    ensures { λ r. ⌜ r ≡ spec.notMoved refusal ⌝ }
-{
-    Replied {
-        reply: Reply::Moved(Said::Refused(refusal)),
-        frame: no_frame(),
-        result: [0; 8],
-    }
-}
-
-// Refused before any motor takes it.
-fn refused(ask: Ask, refusal: Refusal) -> Replied
-    ensures { λ r. ⌜ r ≡ spec.refused ask refusal ⌝ }
-{
-    match ask {
-        Ask::Register {
-            id: _,
-            host: _,
-            model: _,
-            wait: _,
-            time: _,
-        } => told(Checked::Refused(refusal)),
-        Ask::Start {
-            id: _,
-            command: _,
-            time: _,
-        } => not_moved(refusal),
-        Ask::Step { id: _, time: _ } => not_moved(refusal),
-        Ask::Frame { time: _ } => told(Checked::Refused(refusal)),
-        Ask::Remove { id: _, time: _ } => told(Checked::Refused(refusal)),
-    }
-}
-
 // ---- what is left at the place
 
 fn leave(motor: Motor, replied: Replied) -> Visited
@@ -104,12 +62,7 @@ fn answered_at(a: Answered) -> Visited
     let said = a.said;
     let frame = a.frame;
     let result = a.result;
-    let replied = Replied {
-        reply: Reply::Moved(said),
-        frame,
-        result,
-    };
-    Visited { motor, replied }
+    leave(motor, moved(said, frame, result))
 }
 
 fn heard_at(h: Heard) -> Visited
@@ -144,25 +97,26 @@ fn entered_at(m: Motor, id: u16, host: u16, model: ModelNamed, wait: u64, time: 
 }
 
 fn done_at(m: Motor, asked: Asked) -> Visited
-    ensures { λ r. ⌜ r ≡ spec.doneBy m (asked .ask) (asked .frame) ⌝ }
+    ensures { λ r. ⌜ r ≡ spec.doneBy m (asked .call) (asked .frame) ⌝ }
 {
-    let ask = asked.ask;
-    match ask {
-        Ask::Register {
+    let call = asked.call;
+    match call {
+        Call::Register {
             id,
             host,
             model,
             wait,
             time,
         } => return entered_at(m, id, host, model, wait, time),
-        Ask::Start {
+        Call::Start {
             id: _,
             command,
             time,
         } => return answered_at(motor::motor::start(m, command, time)),
-        Ask::Step { id: _, time } => return answered_at(motor::motor::step(m, time)),
-        Ask::Frame { time } => return heard_at(process_feedback_frame(m, asked.frame, time)),
-        Ask::Remove { id: _, time } => return removed_at(m, removal(m, time)),
+        Call::Step { id: _, time } => return answered_at(motor::motor::step(m, time)),
+        Call::Frame { time } => return heard_at(process_feedback_frame(m, asked.frame, time)),
+        Call::Look { id: _ } => return leave(m, reply(Answer::Looked(Checked::Passed))),
+        Call::Remove { id: _, time } => return removed_at(m, removal(m, time)),
     }
 }
 
@@ -171,44 +125,21 @@ pub(super) fn visited_at(m: Motor, asked: Asked, route: Route) -> Visited
     ensures { λ r. ⌜ r ≡ spec.visitedOf m asked route ⌝ }
 {
     let said = route.said;
-    let ask = asked.ask;
+    let call = asked.call;
     match said {
         Checked::Passed => return done_at(m, asked),
-        Checked::Refused(refusal) => return leave(m, refused(ask, refusal)),
+        Checked::Refused(refusal) => return leave(m, refused(call, refusal)),
     }
 }
 
 // ---- a quiet call
-
-fn time_of(ask: Ask) -> u64
-    ensures { λ r. ⌜ r ≡ spec.timeOf ask ⌝ }
-{
-    match ask {
-        Ask::Register {
-            id: _,
-            host: _,
-            model: _,
-            wait: _,
-            time,
-        } => time,
-        Ask::Start {
-            id: _,
-            command: _,
-            time,
-        } => time,
-        Ask::Step { id: _, time } => time,
-        Ask::Frame { time } => time,
-        Ask::Remove { id: _, time } => time,
-    }
-}
 
 fn kept_heard(h: StateHeard) -> Kept
     ensures { λ r. ⌜ r ≡ spec.keptHeard h ⌝ }
 {
     let state = h.state;
     let said = h.said;
-    let replied = told(said);
-    Kept { state, replied }
+    keep(state, told(said))
 }
 
 fn keep(state: State, replied: Replied) -> Kept
@@ -222,10 +153,10 @@ pub(super) fn kept_at(s: State, asked: Asked, route: Route) -> Kept
     ensures { λ r. ⌜ r ≡ spec.keptOf s asked route ⌝ }
 {
     let said = route.said;
-    let ask = asked.ask;
+    let call = asked.call;
     match said {
-        Checked::Passed => return kept_heard(hear_state(s, asked.frame, time_of(ask))),
-        Checked::Refused(refusal) => return keep(s, refused(ask, refusal)),
+        Checked::Passed => return kept_heard(hear_state(s, asked.frame, time_of(call))),
+        Checked::Refused(refusal) => return keep(s, refused(call, refusal)),
     }
 }
 
@@ -235,8 +166,8 @@ pub(super) fn kept_at(s: State, asked: Asked, route: Route) -> Kept
 pub(super) fn edited_at(m: Motor, asked: Asked) -> Edited
     ensures { λ r. ⌜ (r ≡ spec.editedOf m asked) × (r .edit .first < 97) × (r .edit .second < 97) ⌝ }
 {
-    let ask = asked.ask;
-    let h = hear_read(m, asked.frame, time_of(ask));
+    let call = asked.call;
+    let h = hear_read(m, asked.frame, time_of(call));
     let state = h.state;
     let edit = h.edit;
     let said = h.said;

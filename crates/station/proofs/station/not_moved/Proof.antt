@@ -3,11 +3,11 @@ use borrow.Author.Needs.{needs}
 use Rattle.station.proofs.station.not_moved.Statement.{statement}
 use Rattle.station.proofs.station.not_moved.Tie as tie
 
-no-frame-requires : tie.Need-no-frame-requires
-no-frame-requires c κs = search needs
+reply-requires : tie.Need-reply-requires
+reply-requires c κs = search needs
 
 returns : tie.Need-returns
-returns c = rw (c .no-frame .ensures)
+returns c = rw (c .reply .ensures)
 
 pub not-moved-spec : {M : Type 1} → statement M
-not-moved-spec = tie.close (tie.spec no-frame-requires returns)
+not-moved-spec = tie.close (tie.spec reply-requires returns)

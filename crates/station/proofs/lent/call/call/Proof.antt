@@ -35,18 +35,18 @@ use Rattle.motor.proofs.edits.Edit as edit-type
 use Rattle.motor.proofs.edits.Edit.Laws as edit-laws
 use Rattle.motor.specs.Edits.{edited as edited-in}
 use Rattle.walks.proofs.ThinWalk as thin
-use Rattle.station.specs.declared.lent.call.Asked.{Asked}
-use Rattle.station.specs.declared.lent.call.Replied.{Replied}
+use Rattle.station.specs.declared.call.Asked.{Asked}
+use Rattle.station.specs.declared.call.Replied.{Replied}
 use Rattle.station.specs.declared.lent.route.Route.{Route}
 use Rattle.station.specs.declared.lent.visit.Kept.{Kept}
 use Rattle.station.specs.declared.lent.visit.Edited.{Edited}
 use Rattle.station.specs.declared.lent.visit.Visited.{Visited}
 use Rattle.station.specs.Stations.{freeMotor}
 use Rattle.station.specs.lent.Lent.{stationOf, routeOf, keptOf, editedOf, visitedOf}
-use Rattle.station.proofs.lent.call.Asked as asked-type
-use Rattle.station.proofs.lent.call.Asked.Laws as asked-laws
-use Rattle.station.proofs.lent.call.Replied as replied-type
-use Rattle.station.proofs.lent.call.Replied.Laws as replied-laws
+use Rattle.station.proofs.call.Asked as asked-type
+use Rattle.station.proofs.call.Asked.Laws as asked-laws
+use Rattle.station.proofs.call.Replied as replied-type
+use Rattle.station.proofs.call.Replied.Laws as replied-laws
 use Rattle.station.proofs.lent.route.Route as route-type
 use Rattle.station.proofs.lent.route.Route.Laws as route-laws
 use Rattle.station.proofs.lent.visit.Kept as kept-type

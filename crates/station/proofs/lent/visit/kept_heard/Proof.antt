@@ -6,8 +6,11 @@ use Rattle.station.proofs.lent.visit.kept_heard.Tie as tie
 told-requires : tie.Need-told-requires
 told-requires c κs = search needs
 
+keep-requires : tie.Need-keep-requires
+keep-requires c κs = search needs
+
 returns : tie.Need-returns
-returns c = rw (c .told .ensures)
+returns c = rw (← c .before .told .ensures) (c .keep .ensures)
 
 pub kept-heard-spec : {M : Type 1} → statement M
-kept-heard-spec = tie.close (tie.spec told-requires returns)
+kept-heard-spec = tie.close (tie.spec told-requires keep-requires returns)
