@@ -6,13 +6,13 @@ use lib.Dec.{eqb, ltb, leb}
 use lib.ListN.{length, getD, set}
 use Rattle.text.specs.declared.numbers.Num.{Num}
 use Rattle.text.specs.declared.numbers.Num.the-variants.{Value, Bad}
-use Rattle.text.specs.Ascii.{ascii}
 use Rattle.text.specs.Numbers.{pick, inBase, numberOf}
 use Rattle.text.specs.Words.{wordsIn, wordAt, whichOf}
 use Rattle.session.specs.declared.arguments.Args.{Args}
 use Rattle.session.specs.declared.arguments.Fitting.{Fitting}
 use Rattle.session.specs.declared.arguments.Fitting.the-variants as fit
 use Rattle.session.specs.declared.event.Reason.the-variants as reason
+use Rattle.session.specs.Table.{modes, kinds}
 
 -- the most that a letter's number may be: I and H 65,535, P and B 255, W 2^32 - 1, F 1, any other 2^64 - 1
 unfoldable pub mostOf : ℕ → ℕ
@@ -30,9 +30,12 @@ unfoldable pub bounded : Num → ℕ → Num
 bounded (Value n) letter = pick (leb n (mostOf letter)) (Value n) (pick (isCapped letter) (Value (mostOf letter)) Bad)
 bounded Bad letter = Bad
 
--- the place of a word among n names
-abbrev pub namedIn : List ℕ → ℕ → List ℕ → Num
-namedIn names n w = pick (ltb (whichOf names n w) n) (Value (whichOf names n w)) Bad
+abbrev pub oneOf : ℕ → ℕ → Num
+oneOf k n = pick (ltb k n) (Value k) Bad
+
+-- the place of a word among names
+abbrev pub namedIn : List ℕ → List ℕ → Num
+namedIn names w = oneOf (whichOf names (wordsIn names) w) (wordsIn names)
 
 -- sixteen hexadecimal digits
 abbrev pub payloadIn : List ℕ → Num
@@ -45,8 +48,8 @@ anyIn w = pick (eqb (length w) 0) Bad (Value 0)
 -- the number that a word is for a letter: C a mode, K a kind, D a payload, X any word, and any other letter a number
 unfoldable pub argumentOf : List ℕ → ℕ → Num
 argumentOf w letter =
-    pick (eqb letter 0x43) (namedIn (ascii "mit pp velocity csp") 4 w)
-    (pick (eqb letter 0x4B) (namedIn (ascii "i8 u8 u16 u32 f32") 5 w)
+    pick (eqb letter 0x43) (namedIn modes w)
+    (pick (eqb letter 0x4B) (namedIn kinds w)
     (pick (eqb letter 0x44) (payloadIn w) (pick (eqb letter 0x58) (anyIn w) (bounded (numberOf w) letter))))
 
 abbrev pub onNumber : Num → Args → (ℕ → Args) → Args

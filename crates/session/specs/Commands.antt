@@ -1,10 +1,10 @@
--- The command of a start. k is its place among the names, and v has the line's numbers, the arguments from place 3 on. Definitions
+-- The command of a start. k is its row of the table, and v has the line's numbers, the arguments from place 3 on. Definitions
 -- only.
-use Prim.Native.Nat.{ℕ, _%_, _^_}
+use Prim.Native.Nat.{ℕ, _+_, _/_, _%_, _^_}
 use mathlib.Core.Bool.{Bool, true, false, cond}
 use mathlib.Core.List.{List}
-use lib.Dec.{eqb, ltb, leb}
-use lib.ListN.{getD}
+use lib.Dec.{eqb, leb}
+use lib.ListN.{length, getD}
 use mir.Syntax.{w8}
 use mir.Val.{toZ}
 use Rattle.codec.specs.declared.protocol.ParameterValue.{ParameterValue}
@@ -14,14 +14,15 @@ use Rattle.codec.specs.declared.registers.ControlMode.the-variants as mode
 use Rattle.codec.specs.declared.word.Word.{Word}
 use Rattle.motor.specs.declared.engine.command.Command.{Command}
 use Rattle.motor.specs.declared.engine.command.Command.the-variants as command
-use Rattle.text.specs.Ascii.{ascii}
-use Rattle.text.specs.Words.{wordAt, whichOf}
+use Rattle.bytes.specs.Bytes.{indexOf}
+use Rattle.text.specs.Words.{wordsIn, wordAt}
 use Rattle.session.specs.declared.arguments.Args.{Args}
 use Rattle.session.specs.declared.arguments.Fitting.{Fitting}
 use Rattle.session.specs.declared.arguments.Fitting.the-variants as fit
 use Rattle.session.specs.declared.event.Event.{Event}
 use Rattle.session.specs.declared.event.Event.the-variants as event
 use Rattle.session.specs.declared.event.Reason.the-variants as reason
+use Rattle.session.specs.Table.{commands, placeOf}
 use Rattle.session.specs.Arguments.{argsOf, fitOf}
 
 -- number i of a line as a byte, as 16 bits, and as a float's word
@@ -64,30 +65,7 @@ abbrev pub orCommand : Bool → Command → Command → Command
 orCommand true a b = a
 orCommand false a b = b
 
--- ping to set_device_id
-unfoldable pub setUp : ℕ → List ℕ → Command
-setUp k v =
-    orCommand (eqb k 0) (command.Ping (getD v 3 0))
-    (orCommand (eqb k 1) (command.PingWithHostId (half v 3) (getD v 4 0))
-    (orCommand (eqb k 2) (command.SetMode (modeAt (getD v 3 0)))
-    (orCommand (eqb k 3) (command.EnsureControlMode (modeAt (getD v 3 0)) (getD v 4 0))
-    (orCommand (eqb k 4) command.SetZeroPosition
-    (orCommand (eqb k 5) command.SaveParameters
-    (orCommand (eqb k 6) (command.GetProtocolFlag (getD v 3 0))
-    (orCommand (eqb k 7) (command.SetProtocol (byte v 3) (getD v 4 0)) (command.SetDeviceId (byte v 3)))))))))
-
--- enable to controlled_stop
-unfoldable pub driven : ℕ → List ℕ → Command
-driven k v =
-    orCommand (eqb k 9) command.Enable
-    (orCommand (eqb k 10) command.Disable
-    (orCommand (eqb k 11) command.ClearError
-    (orCommand (eqb k 12) (command.SetActiveReport (eqb (getD v 3 0) 1))
-    (orCommand (eqb k 13) (command.SendCmdMit (word v 3) (word v 4) (word v 5) (word v 6) (word v 7))
-    (orCommand (eqb k 14) (command.SetVelocityTarget (word v 3))
-    (orCommand (eqb k 15) (command.GetControlMode (getD v 3 0)) (command.ControlledStop (getD v 3 0))))))))
-
--- write_parameter to get_parameter_i8
+-- from write_parameter on
 unfoldable pub parameterCall : ℕ → List ℕ → Command
 parameterCall k v =
     orCommand (eqb k 17) (command.WriteParameter (half v 3) (valueAt (getD v 4 0) (getD v 5 0)))
@@ -98,38 +76,58 @@ parameterCall k v =
     (orCommand (eqb k 22) (command.GetParameterWithHostId (half v 3) (half v 4) (getD v 5 0))
     (orCommand (eqb k 23) (command.GetParameterF32 (half v 3) (getD v 4 0)) (command.GetParameterI8 (half v 3) (getD v 4 0))))))))
 
+-- from enable on
+unfoldable pub driven : ℕ → List ℕ → Command
+driven k v =
+    orCommand (eqb k 9) command.Enable
+    (orCommand (eqb k 10) command.Disable
+    (orCommand (eqb k 11) command.ClearError
+    (orCommand (eqb k 12) (command.SetActiveReport (eqb (getD v 3 0) 1))
+    (orCommand (eqb k 13) (command.SendCmdMit (word v 3) (word v 4) (word v 5) (word v 6) (word v 7))
+    (orCommand (eqb k 14) (command.SetVelocityTarget (word v 3))
+    (orCommand (eqb k 15) (command.GetControlMode (getD v 3 0)) (orCommand (eqb k 16) (command.ControlledStop (getD v 3 0)) (parameterCall k v))))))))
+
+-- the command of row k
 unfoldable pub commandAt : ℕ → List ℕ → Command
-commandAt k v = orCommand (ltb k 9) (setUp k v) (orCommand (ltb k 17) (driven k v) (parameterCall k v))
+commandAt k v =
+    orCommand (eqb k 0) (command.Ping (getD v 3 0))
+    (orCommand (eqb k 1) (command.PingWithHostId (half v 3) (getD v 4 0))
+    (orCommand (eqb k 2) (command.SetMode (modeAt (getD v 3 0)))
+    (orCommand (eqb k 3) (command.EnsureControlMode (modeAt (getD v 3 0)) (getD v 4 0))
+    (orCommand (eqb k 4) command.SetZeroPosition
+    (orCommand (eqb k 5) command.SaveParameters
+    (orCommand (eqb k 6) (command.GetProtocolFlag (getD v 3 0))
+    (orCommand (eqb k 7) (command.SetProtocol (byte v 3) (getD v 4 0)) (orCommand (eqb k 8) (command.SetDeviceId (byte v 3)) (driven k v)))))))))
 
 abbrev pub orEvent : Bool → Event → Event → Event
 orEvent true a b = a
 orEvent false a b = b
 
--- a written value is no wider than its kind
-abbrev pub tooWide : ℕ → List ℕ → Bool
-tooWide k v = cond (eqb k 17) (ltb (widestOf (getD v 4 0)) (getD v 5 0)) false
+abbrev pub wideAt : ℕ → ℕ → List ℕ → ℕ
+wideAt kind n v =
+    cond (leb n kind) 0 (cond (leb 7 kind) 0 (cond (leb (getD v (kind + 1) 0) (widestOf (getD v kind 0))) 0 (kind + 3)))
 
-unfoldable pub startAt : ℕ → List ℕ → Event
-startAt k v = orEvent (tooWide k v) (event.Error (reason.BadWord 7 0x56)) (event.Start (half v 0) (getD v 1 0) (commandAt k v))
+-- the word of a value that is wider than the kind before it, counted from 1; 0 for none
+abbrev pub tooWide : List ℕ → List ℕ → ℕ
+tooWide shape v = wideAt (indexOf 0x4B shape) (length shape) v
+
+abbrev pub startBy : ℕ → ℕ → List ℕ → Event
+startBy wide k v = orEvent (eqb wide 0) (event.Start (half v 0) (getD v 1 0) (commandAt k v)) (event.Error (reason.BadWord wide 0x56))
+
+unfoldable pub startAt : ℕ → List ℕ → List ℕ → Event
+startAt k shape v = startBy (tooWide shape v) k v
 
 -- what a line with these words is, where they fit
 abbrev pub ifFit : Fitting → Event → Event
 ifFit fit.Good e = e
 ifFit (fit.Bad r) e = event.Error r
 
-abbrev pub commands : List ℕ
-commands = ascii "ping ping_with_host_id set_mode ensure_control_mode set_zero_position save_parameters get_protocol_flag set_protocol set_device_id enable disable clear_error set_active_report send_cmd_mit set_velocity_target get_control_mode controlled_stop write_parameter send_cmd_pos_vel_csp send_cmd_pos_vel_pp request_parameter get_parameter get_parameter_with_host_id get_parameter_f32 get_parameter_i8"
-
--- the shape of each command's line
-abbrev pub shapes : List ℕ
-shapes = ascii "ITXT ITXIT ITXC ITXCT ITX ITX ITXT ITXPT ITXB ITX ITX ITX ITXF ITXWWWWW ITXW ITXT ITXT ITXHKW ITXWW ITXWWW ITXH ITXHT ITXHIT ITXHT ITXHT"
-
 abbrev pub startedBy : List ℕ → List ℕ → ℕ → Event
-startedBy line shape k = ifFit (fitOf line shape (argsOf line shape .good)) (startAt k (argsOf line shape .v))
+startedBy line shape k = ifFit (fitOf line shape (argsOf line shape .good)) (startAt k shape (argsOf line shape .v))
 
 abbrev pub startedAs : List ℕ → ℕ → Event
-startedAs line k = orEvent (leb 25 k) (event.Error reason.NoSuchCommand) (startedBy line (wordAt shapes k) k)
+startedAs line at = orEvent (leb (wordsIn commands) at) (event.Error reason.NoSuchCommand) (startedBy line (wordAt commands (at + 1)) (at / 2))
 
 -- start ID TIME COMMAND ARGS
 unfoldable pub started : List ℕ → Event
-started line = startedAs line (whichOf commands 25 (wordAt line 3))
+started line = startedAs line (placeOf commands (wordAt line 3))

@@ -1,14 +1,14 @@
 -- Which event a line is. Definitions only.
-use Prim.Native.Nat.{ℕ, _-_, _%_, _^_}
+use Prim.Native.Nat.{ℕ, _+_, _-_, _/_, _%_, _^_}
 use mathlib.Core.Bool.{Bool, cond}
 use mathlib.Core.List.{List}
-use lib.Dec.{eqb, ltb}
+use lib.Dec.{eqb, ltb, leb}
 use lib.ListN.{length, getD}
-use Rattle.text.specs.Ascii.{ascii}
-use Rattle.text.specs.Words.{wordAt, whichOf}
+use Rattle.text.specs.Words.{wordsIn, wordAt}
 use Rattle.session.specs.declared.event.Event.{Event}
 use Rattle.session.specs.declared.event.Event.the-variants as event
 use Rattle.session.specs.declared.event.Reason.the-variants as reason
+use Rattle.session.specs.Table.{events, placeOf}
 use Rattle.session.specs.Arguments.{argsOf, fitOf}
 use Rattle.session.specs.Commands.{byte, half, orEvent, ifFit, started}
 use Rattle.session.specs.Heard.{heardIn}
@@ -21,7 +21,7 @@ shownIn line n = cond (eqb n 0) 0 (cond (eqb (getD line (n - 1) 0) 0x0D) (n - 1)
 abbrev pub frameOf : List ℕ → Event
 frameOf v = event.Frame (getD v 0 0) (getD v 1 0 % 2 ^ 32) (getD v 2 0) (eqb (getD v 3 0) 1) (byte v 4) (eqb (getD v 5 0) 1)
 
--- event k of fresh, register, step, frame, look, remove, of a line's numbers
+-- the event of row k, of a line's numbers
 unfoldable pub callAt : ℕ → List ℕ → Event
 callAt k v =
     orEvent (eqb k 0) event.Fresh
@@ -33,12 +33,12 @@ callAt k v =
 abbrev pub calledBy : List ℕ → List ℕ → ℕ → Event
 calledBy line shape k = ifFit (fitOf line shape (argsOf line shape .good)) (callAt k (argsOf line shape .v))
 
--- their shapes; fresh has no argument
-unfoldable pub called : List ℕ → ℕ → Event
-called line k = calledBy line (wordAt (ascii " IIXTT IT TWDFBF I IT") k) k
+-- a start's line is read by its command
+unfoldable pub called : List ℕ → List ℕ → ℕ → Event
+called line shape k = orEvent (eqb k 6) (started line) (calledBy line shape k)
 
 abbrev pub eventBy : List ℕ → ℕ → Event
-eventBy line k = orEvent (ltb k 6) (called line k) (orEvent (eqb k 6) (started line) (event.Error reason.NoSuchEvent))
+eventBy line at = orEvent (leb (wordsIn events) at) (event.Error reason.NoSuchEvent) (called line (wordAt events (at + 1)) (at / 2))
 
 -- Blank lines and comments are nothing; a line has at most 4,096 bytes; one that begins with ( is a line of a log; else the first
 -- word says which event it is.
@@ -48,4 +48,4 @@ eventOf line =
     (orEvent (eqb (getD line 0 0) 0x23) event.Nothing
     (orEvent (ltb 4096 (length line)) (event.Error reason.LineTooLong)
     (orEvent (eqb (getD line 0 0) 0x28) (heardIn line)
-    (eventBy line (whichOf (ascii "fresh register step frame look remove start") 7 (wordAt line 0))))))
+    (eventBy line (placeOf events (wordAt line 0))))))

@@ -3,6 +3,8 @@
 // T a number. I a motor's id or a host, P a protocol: handed in as the most that its type holds where it is above that. B a number
 // up to 255, H up to 65,535, W up to 2^32 - 1, F up to 1. D a payload of 16 digits. C a mode, K a kind. X any word.
 use crate::event::Reason;
+use crate::table::KINDS;
+use crate::table::MODES;
 use text::Num;
 ghost use mathlib.Core.Path.{_≡_};
 ghost use Prim.Native.Nat.{_%_, _^_};
@@ -58,18 +60,19 @@ fn argument(w: &[u8], letter: u8) -> Num
     ensures { λ r. ⌜ r ≡ argumentOf (now (w .entry)) letter ⌝ }
 {
     match letter {
-        b'C' => named(b"mit pp velocity csp", 4, w),
-        b'K' => named(b"i8 u8 u16 u32 f32", 5, w),
+        b'C' => named(&MODES, w),
+        b'K' => named(&KINDS, w),
         b'D' => payload(w),
         b'X' => any(w),
         _ => bounded(text::number(w), letter),
     }
 }
 
-// The place of a word among n names.
-fn named(names: &[u8], n: usize, w: &[u8]) -> Num
-    ensures { λ r. ⌜ r ≡ namedIn (now (names .entry)) n (now (w .entry)) ⌝ }
+// The place of a word among names.
+fn named(names: &[u8], w: &[u8]) -> Num
+    ensures { λ r. ⌜ r ≡ namedIn (now (names .entry)) (now (w .entry)) ⌝ }
 {
+    let n = text::word_count(names);
     let k = text::which(names, n, w);
     if k < n {
         return Num::Value(k as u64);

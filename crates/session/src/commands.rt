@@ -7,6 +7,8 @@ use crate::arguments::low16;
 use crate::arguments::low32;
 use crate::event::Event;
 use crate::event::Reason;
+use crate::table::COMMANDS;
+use crate::table::place;
 use codec::protocol::ParameterValue;
 use codec::registers::ControlMode;
 use codec::word::Word;
@@ -19,32 +21,27 @@ ghost use Rattle.session.specs.Commands as spec;
 pub(crate) fn started(line: &[u8]) -> Event
     ensures { λ r. ⌜ r ≡ spec.started (now (line .entry)) ⌝ }
 {
-    let k = text::which(
-        b"ping ping_with_host_id set_mode ensure_control_mode set_zero_position save_parameters get_protocol_flag set_protocol set_device_id enable disable clear_error set_active_report send_cmd_mit set_velocity_target get_control_mode controlled_stop write_parameter send_cmd_pos_vel_csp send_cmd_pos_vel_pp request_parameter get_parameter get_parameter_with_host_id get_parameter_f32 get_parameter_i8",
-        25,
-        text::word(line, 3),
-    );
-    if 25 <= k {
+    let n = text::word_count(&COMMANDS);
+    let at = place(&COMMANDS, text::word(line, 3));
+    if n <= at {
         return Event::Error(Reason::NoSuchCommand);
     }
-    let shape = text::word(
-        b"ITXT ITXIT ITXC ITXCT ITX ITX ITXT ITXPT ITXB ITX ITX ITX ITXF ITXWWWWW ITXW ITXT ITXT ITXHKW ITXWW ITXWWW ITXH ITXHT ITXHIT ITXHT ITXHT",
-        k,
-    );
+    let shape = text::word(&COMMANDS, at + 1);
     let args = arguments(line, shape);
     let v = args.v;
     match fit(line, shape, args.good) {
-        Fitting::Good => start_of(k, v),
+        Fitting::Good => start_of(at / 2, shape, v),
         Fitting::Bad(reason) => Event::Error(reason),
     }
 }
 
-// The start of command k, whose arguments stand in v from place 3 on. A written value is as wide as its kind.
-fn start_of(k: usize, v: [u64; 8]) -> Event
-    ensures { λ r. ⌜ r ≡ spec.startAt k v ⌝ }
+// The start of row k, whose arguments stand in v from place 3 on.
+fn start_of(k: usize, shape: &[u8], v: [u64; 8]) -> Event
+    ensures { λ r. ⌜ r ≡ spec.startAt k (now (shape .entry)) v ⌝ }
 {
-    if too_wide(k, v) {
-        return Event::Error(Reason::BadWord(7, b'V'));
+    let wide = too_wide(shape, v);
+    if wide != 0 {
+        return Event::Error(Reason::BadWord(wide, b'V'));
     }
     Event::Start {
         id: low16(v[0]),
@@ -53,31 +50,26 @@ fn start_of(k: usize, v: [u64; 8]) -> Event
     }
 }
 
-// Whether a written value is wider than its kind.
-fn too_wide(k: usize, v: [u64; 8]) -> bool
-    ensures { λ r. ⌜ r ≡ spec.tooWide k v ⌝ }
+// The word of a value that is wider than the kind before it, counted from 1; 0 for none.
+fn too_wide(shape: &[u8], v: [u64; 8]) -> usize
+    ensures { λ r. ⌜ r ≡ spec.tooWide (now (shape .entry)) v ⌝ }
 {
-    if k != 17 {
-        return false;
+    let kind = bytes::scan::find(shape, 0, shape.len(), b'K');
+    if shape.len() <= kind {
+        return 0;
     }
-    widest(v[4]) < v[5]
+    if 7 <= kind {
+        return 0;
+    }
+    if v[kind + 1] <= widest(v[kind]) {
+        return 0;
+    }
+    kind + 3
 }
 
+// The command of row k.
 fn command_of(k: usize, v: [u64; 8]) -> Command
     ensures { λ r. ⌜ r ≡ spec.commandAt k v ⌝ }
-{
-    if k < 9 {
-        return set_up(k, v);
-    }
-    if k < 17 {
-        return driven(k, v);
-    }
-    parameter(k, v)
-}
-
-// The calls up to set_device_id.
-fn set_up(k: usize, v: [u64; 8]) -> Command
-    ensures { λ r. ⌜ r ≡ spec.setUp k v ⌝ }
 {
     match k {
         0 => Command::Ping(v[3]),
@@ -88,11 +80,12 @@ fn set_up(k: usize, v: [u64; 8]) -> Command
         5 => Command::SaveParameters,
         6 => Command::GetProtocolFlag(v[3]),
         7 => Command::SetProtocol(low8(v[3]), v[4]),
-        _ => Command::SetDeviceId(low8(v[3])),
+        8 => Command::SetDeviceId(low8(v[3])),
+        _ => driven(k, v),
     }
 }
 
-// The calls from enable to controlled_stop.
+// From enable on.
 fn driven(k: usize, v: [u64; 8]) -> Command
     ensures { λ r. ⌜ r ≡ spec.driven k v ⌝ }
 {
@@ -104,11 +97,12 @@ fn driven(k: usize, v: [u64; 8]) -> Command
         13 => Command::SendCmdMit(word(v[3]), word(v[4]), word(v[5]), word(v[6]), word(v[7])),
         14 => Command::SetVelocityTarget(word(v[3])),
         15 => Command::GetControlMode(v[3]),
-        _ => Command::ControlledStop(v[3]),
+        16 => Command::ControlledStop(v[3]),
+        _ => parameter(k, v),
     }
 }
 
-// The calls from write_parameter on.
+// From write_parameter on.
 fn parameter(k: usize, v: [u64; 8]) -> Command
     ensures { λ r. ⌜ r ≡ spec.parameterCall k v ⌝ }
 {

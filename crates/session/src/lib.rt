@@ -4,3 +4,4 @@ mod commands;
 pub mod event;
 mod heard;
 pub mod line;
+pub mod table;

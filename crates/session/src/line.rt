@@ -9,6 +9,9 @@ use crate::commands::started;
 use crate::event::Event;
 use crate::event::Reason;
 use crate::heard::heard;
+use crate::table::EVENTS;
+use crate::table::START;
+use crate::table::place;
 ghost use mathlib.Core.Path.{_≡_};
 ghost use lib.ListN.{length};
 ghost use Prim.Native.Nat.{_≤_};
@@ -47,25 +50,21 @@ pub fn event_of(line: &[u8]) -> Event
     if line[0] == b'(' {
         return heard(line);
     }
-    let k = text::which(
-        b"fresh register step frame look remove start",
-        7,
-        text::word(line, 0),
-    );
-    if k < 6 {
-        return called(line, k);
+    let n = text::word_count(&EVENTS);
+    let at = place(&EVENTS, text::word(line, 0));
+    if n <= at {
+        return Event::Error(Reason::NoSuchEvent);
     }
-    if k == 6 {
-        return started(line);
-    }
-    Event::Error(Reason::NoSuchEvent)
+    called(line, text::word(&EVENTS, at + 1), at / 2)
 }
 
-// An event other than a start.
-fn called(line: &[u8], k: usize) -> Event
-    ensures { λ r. ⌜ r ≡ spec.called (now (line .entry)) k ⌝ }
+// The event of row k. A start's line is read by its command.
+fn called(line: &[u8], shape: &[u8], k: usize) -> Event
+    ensures { λ r. ⌜ r ≡ spec.called (now (line .entry)) (now (shape .entry)) k ⌝ }
 {
-    let shape = text::word(b" IIXTT IT TWDFBF I IT", k);
+    if k == START {
+        return started(line);
+    }
     let args = arguments(line, shape);
     let v = args.v;
     match fit(line, shape, args.good) {

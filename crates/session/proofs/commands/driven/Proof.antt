@@ -50,6 +50,9 @@ array-read-t35 c = search needs
 array-read-t38 : tie.Need-array-read-t38
 array-read-t38 c = search needs
 
+parameter-requires : tie.Need-parameter-requires
+parameter-requires c κs = search needs
+
 returns : tie.Need-returns
 unfolding driven
 returns c = rw (c .match .keys1)
@@ -86,7 +89,13 @@ returns-7 c = rw (c .match .keys7)
 
 returns-8 : tie.Need-returns-8
 unfolding driven
-returns-8 c = rw (ne-eqb _ _ (c .match .rest .0 .0 .0 .0 .0 .0 .1), ne-eqb _ _ (c .match .rest .0 .0 .0 .0 .0 .1), ne-eqb _ _ (c .match .rest .0 .0 .0 .0 .1), ne-eqb _ _ (c .match .rest .0 .0 .0 .1), ne-eqb _ _ (c .match .rest .0 .0 .1), ne-eqb _ _ (c .match .rest .0 .1), ne-eqb _ _ (c .match .rest .1))
+returns-8 c = rw (c .match .keys8)
+
+returns-9 : tie.Need-returns-9
+unfolding driven
+returns-9 c =
+    let p1 = c .before in
+    rw (ne-eqb _ _ (p1 .match .rest .0 .0 .0 .0 .0 .0 .0 .1), ne-eqb _ _ (p1 .match .rest .0 .0 .0 .0 .0 .0 .1), ne-eqb _ _ (p1 .match .rest .0 .0 .0 .0 .0 .1), ne-eqb _ _ (p1 .match .rest .0 .0 .0 .0 .1), ne-eqb _ _ (p1 .match .rest .0 .0 .0 .1), ne-eqb _ _ (p1 .match .rest .0 .0 .1), ne-eqb _ _ (p1 .match .rest .0 .1), ne-eqb _ _ (p1 .match .rest .1)) (c .parameter .ensures)
 
 pub driven-spec : {M : Type 1} → statement M
 driven-spec =
@@ -107,6 +116,7 @@ driven-spec =
     word-requires-6
     array-read-t35
     array-read-t38
+    parameter-requires
     returns
     returns-2
     returns-3
@@ -114,4 +124,5 @@ driven-spec =
     returns-5
     returns-6
     returns-7
-    returns-8)
+    returns-8
+    returns-9)

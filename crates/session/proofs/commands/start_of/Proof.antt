@@ -1,4 +1,5 @@
--- Right because a written value is tested against its kind's width, and the rest is built as the definition says.
+-- Right because a value's width is tested, and the rest is built as the definition says.
+use borrow.Author.Tests.{eq-eqb, ne-eqb}
 use Rattle.session.specs.Commands.{startAt}
 use borrow.Author.Needs.{needs}
 use Rattle.session.proofs.commands.start_of.Statement.{statement}
@@ -9,7 +10,7 @@ too-wide-requires c κs = search needs
 
 returns : tie.Need-returns
 unfolding startAt
-returns c = rw (← c .before .too-wide .ensures, c .if1 .taken)
+returns c = rw (← c .before .too-wide .ensures, ne-eqb _ _ (c .if1 .taken))
 
 array-read-low16 : tie.Need-array-read-low16
 array-read-low16 c = search needs
@@ -17,15 +18,19 @@ array-read-low16 c = search needs
 low16-requires : tie.Need-low16-requires
 low16-requires c κs = search needs
 
-array-read-t13 : tie.Need-array-read-t13
-array-read-t13 c = search needs
+array-read-t15 : tie.Need-array-read-t15
+array-read-t15 c = search needs
 
 command-of-requires : tie.Need-command-of-requires
 command-of-requires c κs = search needs
 
 returns-2 : tie.Need-returns-2
 unfolding startAt
-returns-2 c = rw (← c .before .before .before .too-wide .ensures, c .before .before .if1 .left, c .command-of .ensures, c .before .low16 .ensures)
+returns-2 c =
+    let p1 = c .before in
+    let p2 = p1 .before in
+    let p3 = p2 .before in
+    rw (← p3 .too-wide .ensures, eq-eqb _ _ (p2 .if1 .left), c .command-of .ensures, p1 .low16 .ensures)
 
 pub start-of-spec : {M : Type 1} → statement M
 start-of-spec =
@@ -35,6 +40,6 @@ start-of-spec =
     returns
     array-read-low16
     low16-requires
-    array-read-t13
+    array-read-t15
     command-of-requires
     returns-2)

@@ -5,21 +5,34 @@ use borrow.Author.Needs.{needs}
 use Rattle.session.proofs.commands.started.Statement.{statement}
 use Rattle.session.proofs.commands.started.Tie as tie
 
-slice-aggregate-which : tie.Need-slice-aggregate-which
-slice-aggregate-which c = search needs
+slice-aggregate-word-count : tie.Need-slice-aggregate-word-count
+slice-aggregate-word-count c = search needs
+
+word-count-requires : tie.Need-word-count-requires
+word-count-requires c κs = search needs
+
+slice-aggregate-place : tie.Need-slice-aggregate-place
+slice-aggregate-place c = search needs
 
 word-requires : tie.Need-word-requires
 word-requires c κs = search needs
 
-which-requires : tie.Need-which-requires
-which-requires c κs = search needs
+place-requires : tie.Need-place-requires
+place-requires c κs = search needs
 
 returns : tie.Need-returns
 unfolding started
-returns c = rw (← c .before .before .word .ensures, ← c .before .which .ensures .0, le-leb _ _ (c .if1 .taken))
+returns c =
+    let p1 = c .before in
+    let p2 = p1 .before in
+    let p3 = p2 .before .before in
+    rw (← p3 .word-count .ensures, ← p2 .word .ensures, ← p1 .place .ensures, le-leb _ _ (c .if1 .taken))
 
 slice-aggregate-word : tie.Need-slice-aggregate-word
 slice-aggregate-word c = search needs
+
+add-word : tie.Need-add-word
+add-word c = search needs
 
 word-requires-2 : tie.Need-word-requires-2
 word-requires-2 c κs = search needs
@@ -49,7 +62,8 @@ returns-2 c =
     let p5 = p4 .before .before in
     let p6 = p5 .before in
     let p7 = p6 .before in
-    rw (← p7 .word .ensures, ← p6 .which .ensures .0, lt-leb _ _ (p5 .if1 .left), ← p4 .word2 .ensures, ← p3 .arguments .ensures, ← p2 .fit .ensures, p1 .enum-told .given .1) (c .start-of .ensures)
+    let p8 = p7 .before .before in
+    rw (← p8 .word-count .ensures, ← p7 .word .ensures, ← p6 .place .ensures, lt-leb _ _ (p5 .if1 .left), ← p4 .word2 .ensures, ← p3 .arguments .ensures, ← p2 .fit .ensures, p1 .enum-told .given .1) (c .start-of .ensures)
 
 returns-3 : tie.Need-returns-3
 unfolding started
@@ -61,17 +75,21 @@ returns-3 c =
     let p5 = p4 .before .before in
     let p6 = p5 .before in
     let p7 = p6 .before in
-    rw (← p7 .word .ensures, ← p6 .which .ensures .0, lt-leb _ _ (p5 .if1 .left), ← p4 .word2 .ensures, ← p3 .arguments .ensures, ← p2 .fit .ensures, p1 .reason .given .1)
+    let p8 = p7 .before .before in
+    rw (← p8 .word-count .ensures, ← p7 .word .ensures, ← p6 .place .ensures, lt-leb _ _ (p5 .if1 .left), ← p4 .word2 .ensures, ← p3 .arguments .ensures, ← p2 .fit .ensures, p1 .reason .given .1)
 
 pub started-spec : {M : Type 1} → statement M
 started-spec =
     tie.close
     (tie.spec
-    slice-aggregate-which
+    slice-aggregate-word-count
+    word-count-requires
+    slice-aggregate-place
     word-requires
-    which-requires
+    place-requires
     returns
     slice-aggregate-word
+    add-word
     word-requires-2
     arguments-requires
     fit-requires

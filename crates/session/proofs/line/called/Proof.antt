@@ -1,14 +1,16 @@
--- Right because the shape and the arguments are the definition's.
+-- Right because the arguments are the definition's.
+use borrow.Author.Tests.{eq-eqb, ne-eqb}
 use Rattle.session.specs.Lines.{called}
 use borrow.Author.Needs.{needs}
 use Rattle.session.proofs.line.called.Statement.{statement}
 use Rattle.session.proofs.line.called.Tie as tie
 
-slice-aggregate-word : tie.Need-slice-aggregate-word
-slice-aggregate-word c = search needs
+started-requires : tie.Need-started-requires
+started-requires c κs = search needs
 
-word-requires : tie.Need-word-requires
-word-requires c κs = search needs
+returns : tie.Need-returns
+unfolding called
+returns c = rw (eq-eqb _ _ (c .before .if1 .taken)) (c .started .ensures)
 
 arguments-requires : tie.Need-arguments-requires
 arguments-requires c κs = search needs
@@ -25,15 +27,6 @@ call-of-requires c κs = search needs
 enum-known-reason : tie.Need-enum-known-reason
 enum-known-reason c = search needs
 
-returns : tie.Need-returns
-unfolding called
-returns c =
-    let p1 = c .before in
-    let p2 = p1 .before .before in
-    let p3 = p2 .before .before in
-    let p4 = p3 .before in
-    rw (← p4 .word .ensures, ← p3 .arguments .ensures, ← p2 .fit .ensures, p1 .enum-told .given .1) (c .call-of .ensures)
-
 returns-2 : tie.Need-returns-2
 unfolding called
 returns-2 c =
@@ -41,18 +34,27 @@ returns-2 c =
     let p2 = p1 .before .before in
     let p3 = p2 .before .before in
     let p4 = p3 .before in
-    rw (← p4 .word .ensures, ← p3 .arguments .ensures, ← p2 .fit .ensures, p1 .reason .given .1)
+    rw (ne-eqb _ _ (p4 .if1 .left), ← p3 .arguments .ensures, ← p2 .fit .ensures, p1 .enum-told .given .1) (c .call-of .ensures)
+
+returns-3 : tie.Need-returns-3
+unfolding called
+returns-3 c =
+    let p1 = c .before in
+    let p2 = p1 .before .before in
+    let p3 = p2 .before .before in
+    let p4 = p3 .before in
+    rw (ne-eqb _ _ (p4 .if1 .left), ← p3 .arguments .ensures, ← p2 .fit .ensures, p1 .reason .given .1)
 
 pub called-spec : {M : Type 1} → statement M
 called-spec =
     tie.close
     (tie.spec
-    slice-aggregate-word
-    word-requires
+    started-requires
+    returns
     arguments-requires
     fit-requires
     enum-told
     call-of-requires
     enum-known-reason
-    returns
-    returns-2)
+    returns-2
+    returns-3)

@@ -1,5 +1,5 @@
 -- Right because the tests are the definition's, in its order.
-use borrow.Author.Tests.{eq-eqb, le-ltb, lt-ltb, ne-eqb}
+use borrow.Author.Tests.{eq-eqb, le-leb, le-ltb, lt-leb, lt-ltb, ne-eqb}
 use Rattle.session.specs.Lines.{eventOf}
 use borrow.Author.Needs.{needs}
 use Rattle.session.proofs.line.event_of.Statement.{statement}
@@ -18,7 +18,10 @@ returns-2 c = rw (ne-eqb _ _ (c .before .before .if1 .left), eq-eqb _ _ (c .if2 
 
 returns-3 : tie.Need-returns-3
 unfolding eventOf
-returns-3 c = rw (ne-eqb _ _ (c .before .before .before .if1 .left), ne-eqb _ _ (c .before .if2 .left), lt-ltb _ _ (c .if3 .taken))
+returns-3 c =
+    let p1 = c .before in
+    let p2 = p1 .before .before in
+    rw (ne-eqb _ _ (p2 .if1 .left), ne-eqb _ _ (p1 .if2 .left), lt-ltb _ _ (c .if3 .taken))
 
 shared-slice-read-if4 : tie.Need-shared-slice-read-if4
 shared-slice-read-if4 c = search needs
@@ -35,57 +38,58 @@ returns-4 c =
     let p4 = p3 .before .before in
     rw (ne-eqb _ _ (p4 .if1 .left), ne-eqb _ _ (p3 .if2 .left), le-ltb _ _ (p2 .if3 .left), eq-eqb _ _ (p1 .if4 .taken)) (c .heard .ensures)
 
-slice-aggregate-which : tie.Need-slice-aggregate-which
-slice-aggregate-which c = search needs
+slice-aggregate-word-count : tie.Need-slice-aggregate-word-count
+slice-aggregate-word-count c = search needs
+
+word-count-requires : tie.Need-word-count-requires
+word-count-requires c κs = search needs
+
+slice-aggregate-place : tie.Need-slice-aggregate-place
+slice-aggregate-place c = search needs
 
 word-requires : tie.Need-word-requires
 word-requires c κs = search needs
 
-which-requires : tie.Need-which-requires
-which-requires c κs = search needs
-
-called-requires : tie.Need-called-requires
-called-requires c κs = search needs
+place-requires : tie.Need-place-requires
+place-requires c κs = search needs
 
 returns-5 : tie.Need-returns-5
 unfolding eventOf
 returns-5 c =
     let p1 = c .before in
     let p2 = p1 .before in
-    let p3 = p2 .before in
+    let p3 = p2 .before .before in
     let p4 = p3 .before .before in
     let p5 = p4 .before .before in
     let p6 = p5 .before in
     let p7 = p6 .before .before in
-    rw (ne-eqb _ _ (p7 .if1 .left), ne-eqb _ _ (p6 .if2 .left), le-ltb _ _ (p5 .if3 .left), ne-eqb _ _ (p4 .if4 .left), ← p3 .word .ensures, ← p2 .which .ensures .0, lt-ltb _ _ (p1 .if5 .taken)) (c .called .ensures)
+    rw (ne-eqb _ _ (p7 .if1 .left), ne-eqb _ _ (p6 .if2 .left), le-ltb _ _ (p5 .if3 .left), ne-eqb _ _ (p4 .if4 .left), ← p3 .word-count .ensures, ← p2 .word .ensures, ← p1 .place .ensures, le-leb _ _ (c .if5 .taken))
 
-started-requires : tie.Need-started-requires
-started-requires c κs = search needs
+slice-aggregate-word : tie.Need-slice-aggregate-word
+slice-aggregate-word c = search needs
+
+add-word : tie.Need-add-word
+add-word c = search needs
+
+word-requires-2 : tie.Need-word-requires-2
+word-requires-2 c κs = search needs
+
+called-requires : tie.Need-called-requires
+called-requires c κs = search needs
 
 returns-6 : tie.Need-returns-6
 unfolding eventOf
 returns-6 c =
     let p1 = c .before in
-    let p2 = p1 .before in
+    let p2 = p1 .before .before in
     let p3 = p2 .before in
     let p4 = p3 .before in
     let p5 = p4 .before .before in
     let p6 = p5 .before .before in
-    let p7 = p6 .before in
-    let p8 = p7 .before .before in
-    rw (ne-eqb _ _ (p8 .if1 .left), ne-eqb _ _ (p7 .if2 .left), le-ltb _ _ (p6 .if3 .left), ne-eqb _ _ (p5 .if4 .left), ← p4 .word .ensures, ← p3 .which .ensures .0, le-ltb _ _ (p2 .if5 .left), eq-eqb _ _ (p1 .if6 .taken)) (c .started .ensures)
-
-returns-7 : tie.Need-returns-7
-unfolding eventOf
-returns-7 c =
-    let p1 = c .before in
-    let p2 = p1 .before in
-    let p3 = p2 .before in
-    let p4 = p3 .before .before in
-    let p5 = p4 .before .before in
-    let p6 = p5 .before in
     let p7 = p6 .before .before in
-    rw (ne-eqb _ _ (p7 .if1 .left), ne-eqb _ _ (p6 .if2 .left), le-ltb _ _ (p5 .if3 .left), ne-eqb _ _ (p4 .if4 .left), ← p3 .word .ensures, ← p2 .which .ensures .0, le-ltb _ _ (p1 .if5 .left), ne-eqb _ _ (c .if6 .left))
+    let p8 = p7 .before in
+    let p9 = p8 .before .before in
+    rw (ne-eqb _ _ (p9 .if1 .left), ne-eqb _ _ (p8 .if2 .left), le-ltb _ _ (p7 .if3 .left), ne-eqb _ _ (p6 .if4 .left), ← p5 .word-count .ensures, ← p4 .word .ensures, ← p3 .place .ensures, lt-leb _ _ (p2 .if5 .left), ← p1 .word2 .ensures) (c .called .ensures)
 
 pub event-of-spec : {M : Type 1} → statement M
 event-of-spec =
@@ -98,11 +102,14 @@ event-of-spec =
     shared-slice-read-if4
     heard-requires
     returns-4
-    slice-aggregate-which
+    slice-aggregate-word-count
+    word-count-requires
+    slice-aggregate-place
     word-requires
-    which-requires
-    called-requires
+    place-requires
     returns-5
-    started-requires
-    returns-6
-    returns-7)
+    slice-aggregate-word
+    add-word
+    word-requires-2
+    called-requires
+    returns-6)
