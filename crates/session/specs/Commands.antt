@@ -16,6 +16,7 @@ use Rattle.motor.specs.declared.engine.command.Command.{Command}
 use Rattle.motor.specs.declared.engine.command.Command.the-variants as command
 use Rattle.bytes.specs.Bytes.{indexOf}
 use Rattle.text.specs.Words.{wordsIn, wordAt}
+use Rattle.station.specs.declared.call.Call.the-variants as call
 use Rattle.session.specs.declared.arguments.Args.{Args}
 use Rattle.session.specs.declared.arguments.Fitting.{Fitting}
 use Rattle.session.specs.declared.arguments.Fitting.the-variants as fit
@@ -23,6 +24,7 @@ use Rattle.session.specs.declared.event.Event.{Event}
 use Rattle.session.specs.declared.event.Event.the-variants as event
 use Rattle.session.specs.declared.event.Reason.the-variants as reason
 use Rattle.session.specs.Table.{commands, placeOf}
+use Rattle.session.specs.Events.{error}
 use Rattle.session.specs.Arguments.{argsOf, fitOf}
 
 -- number i of a line as a byte, as 16 bits, and as a float's word
@@ -112,7 +114,7 @@ abbrev pub tooWide : List ℕ → List ℕ → ℕ
 tooWide shape v = wideAt (indexOf 0x4B shape) (length shape) v
 
 abbrev pub startBy : ℕ → ℕ → List ℕ → Event
-startBy wide k v = orEvent (eqb wide 0) (event.Start (half v 0) (getD v 1 0) (commandAt k v)) (event.Error (reason.BadWord wide 0x56))
+startBy wide k v = orEvent (eqb wide 0) (event.Call (call.Start (half v 0) (commandAt k v) (getD v 1 0))) (error (reason.BadWord wide 0x56))
 
 unfoldable pub startAt : ℕ → List ℕ → List ℕ → Event
 startAt k shape v = startBy (tooWide shape v) k v
@@ -120,13 +122,13 @@ startAt k shape v = startBy (tooWide shape v) k v
 -- what a line with these words is, where they fit
 abbrev pub ifFit : Fitting → Event → Event
 ifFit fit.Good e = e
-ifFit (fit.Bad r) e = event.Error r
+ifFit (fit.Bad r) e = error r
 
 abbrev pub startedBy : List ℕ → List ℕ → ℕ → Event
 startedBy line shape k = ifFit (fitOf line shape (argsOf line shape .good)) (startAt k shape (argsOf line shape .v))
 
 abbrev pub startedAs : List ℕ → ℕ → Event
-startedAs line at = orEvent (leb (wordsIn commands) at) (event.Error reason.NoSuchCommand) (startedBy line (wordAt commands (at + 1)) (at / 2))
+startedAs line at = orEvent (leb (wordsIn commands) at) (error reason.NoSuchCommand) (startedBy line (wordAt commands (at + 1)) (at / 2))
 
 -- start ID TIME COMMAND ARGS
 unfoldable pub started : List ℕ → Event

@@ -10,11 +10,10 @@ use Rattle.text.specs.declared.numbers.Num.the-variants.{Value, Bad}
 use Rattle.text.specs.Ascii.{ascii}
 use Rattle.text.specs.Numbers.{pick, inBase}
 use Rattle.text.specs.Words.{wordsIn, wordAt, whichOf}
-use Rattle.session.specs.declared.event.Event.{Event}
-use Rattle.session.specs.declared.event.Event.the-variants as event
+use Rattle.session.specs.declared.event.Line.{Line}
 use Rattle.session.specs.declared.event.Reason.{Reason}
 use Rattle.session.specs.declared.event.Reason.the-variants as reason
-use Rattle.session.specs.Commands.{orEvent}
+use Rattle.session.specs.Events.{bad, canFrame, hands, orLine}
 
 -- seconds and microseconds as whole milliseconds, at most 2^64 - 1
 unfoldable pub millisecondsOf : Num → Num → Num
@@ -54,42 +53,42 @@ abbrev pub begins : List ℕ → ℕ → Bool
 begins w b = cond (eqb (length w) 0) false (eqb (getD w 0 0) b)
 
 -- DATA of a frame with this time, id and length of the id
-abbrev pub framed : Num → ℕ → ℕ → Bool → ℕ → Event
-framed (Value bytes) time id extended n = event.Frame time id bytes extended (n / 2 % 2 ^ 8) true
-framed Bad time id extended n = event.Error reason.FrameData
+abbrev pub framed : Num → ℕ → ℕ → Bool → ℕ → Line
+framed (Value bytes) time id extended n = hands (canFrame id bytes extended (n / 2 % 2 ^ 8) true) time
+framed Bad time id extended n = bad reason.FrameData
 
-unfoldable pub dataFrame : List ℕ → ℕ → ℕ → Bool → Event
+unfoldable pub dataFrame : List ℕ → ℕ → ℕ → Bool → Line
 dataFrame w time id extended =
-    orEvent (begins w 0x52) (event.Error reason.RemoteFrame)
-    (orEvent (begins w 0x23) (event.Error reason.FdFrame) (framed (dataIn w) time id extended (length w)))
+    orLine (begins w 0x52) (bad reason.RemoteFrame)
+    (orLine (begins w 0x23) (bad reason.FdFrame) (framed (dataIn w) time id extended (length w)))
 
 -- eight digits, or three
 abbrev pub idIn : List ℕ → Num
 idIn w = pick (eqb (length w) 8) (inBase 16 w) (pick (eqb (length w) 3) (inBase 16 w) Bad)
 
-abbrev pub withId : Num → List ℕ → ℕ → Bool → Event
-withId (Value id) rest time extended = orEvent (ltb 0x1FFF_FFFF id) (event.Error reason.ErrorFrame) (dataFrame rest time (id % 2 ^ 32) extended)
-withId Bad rest time extended = event.Error reason.FrameId
+abbrev pub withId : Num → List ℕ → ℕ → Bool → Line
+withId (Value id) rest time extended = orLine (ltb 0x1FFF_FFFF id) (bad reason.ErrorFrame) (dataFrame rest time (id % 2 ^ 32) extended)
+withId Bad rest time extended = bad reason.FrameId
 
 -- ID#DATA, the # standing at place i
-abbrev pub frameAt : List ℕ → ℕ → ℕ → Event
-frameAt w time i = orEvent (leb (length w) i) (event.Error reason.FrameId) (withId (idIn (take i w)) (drop (i + 1) w) time (eqb i 8))
+abbrev pub frameAt : List ℕ → ℕ → ℕ → Line
+frameAt w time i = orLine (leb (length w) i) (bad reason.FrameId) (withId (idIn (take i w)) (drop (i + 1) w) time (eqb i 8))
 
-unfoldable pub frameIn : List ℕ → ℕ → Event
+unfoldable pub frameIn : List ℕ → ℕ → Line
 frameIn w time = frameAt w time (indexOf 0x23 w)
 
 -- a fourth word is R or T
 abbrev pub isDirection : ℕ → List ℕ → Bool
 isDirection n w = cond (ltb n 4) true (ltb (whichOf (ascii "R T") 2 w) 2)
 
-abbrev pub atTime : Num → List ℕ → Event
+abbrev pub atTime : Num → List ℕ → Line
 atTime (Value time) w = frameIn w time
-atTime Bad w = event.Error reason.Stamp
+atTime Bad w = bad reason.Stamp
 
 -- (SECONDS.MICROS) IFACE ID#DATA, and perhaps R or T
-unfoldable pub heardIn : List ℕ → Event
+unfoldable pub heardIn : List ℕ → Line
 heardIn line =
-    orEvent (ltb (wordsIn line) 3) (event.Error reason.LogWords)
-    (orEvent (ltb 4 (wordsIn line)) (event.Error reason.LogWords)
-    (orEvent (eqb (length (wordAt line 1)) 0) (event.Error reason.LogWords)
-    (orEvent (isDirection (wordsIn line) (wordAt line 3)) (atTime (stampOf (wordAt line 0)) (wordAt line 2)) (event.Error reason.Direction))))
+    orLine (ltb (wordsIn line) 3) (bad reason.LogWords)
+    (orLine (ltb 4 (wordsIn line)) (bad reason.LogWords)
+    (orLine (eqb (length (wordAt line 1)) 0) (bad reason.LogWords)
+    (orLine (isDirection (wordsIn line) (wordAt line 3)) (atTime (stampOf (wordAt line 0)) (wordAt line 2)) (bad reason.Direction))))

@@ -1,3 +1,4 @@
+pub mod Events
 pub mod Table
 pub mod Arguments
 pub mod Commands

@@ -1,51 +1,66 @@
--- Which event a line is. Definitions only.
+-- What a line says. Definitions only.
 use Prim.Native.Nat.{ℕ, _+_, _-_, _/_, _%_, _^_}
 use mathlib.Core.Bool.{Bool, cond}
 use mathlib.Core.List.{List}
 use lib.Dec.{eqb, ltb, leb}
 use lib.ListN.{length, getD}
+use Rattle.codec.specs.Models.{modelNamed}
+use Rattle.station.specs.declared.call.Call.the-variants as call
 use Rattle.text.specs.Words.{wordsIn, wordAt}
-use Rattle.session.specs.declared.event.Event.{Event}
+use Rattle.session.specs.declared.arguments.Fitting.{Fitting}
+use Rattle.session.specs.declared.arguments.Fitting.the-variants as fit
 use Rattle.session.specs.declared.event.Event.the-variants as event
+use Rattle.session.specs.declared.event.Line.{Line}
+use Rattle.session.specs.declared.event.Other.the-variants as other
 use Rattle.session.specs.declared.event.Reason.the-variants as reason
 use Rattle.session.specs.Table.{events, placeOf}
 use Rattle.session.specs.Arguments.{argsOf, fitOf}
-use Rattle.session.specs.Commands.{byte, half, orEvent, ifFit, started}
+use Rattle.session.specs.Commands.{byte, half, started}
+use Rattle.session.specs.Events.{bare, bad, canFrame, hands, orLine}
 use Rattle.session.specs.Heard.{heardIn}
 
 -- how long a line is without one CR at its end
 abbrev pub shownIn : List ℕ → ℕ → ℕ
 shownIn line n = cond (eqb n 0) 0 (cond (eqb (getD line (n - 1) 0) 0x0D) (n - 1) n)
 
+-- register ID HOST MODEL WAIT TIME
+abbrev pub registered : List ℕ → List ℕ → Line
+registered model v = bare (event.Call (call.Register (half v 0) (half v 1) (modelNamed model) (getD v 3 0) (getD v 4 0)))
+
 -- frame TIME ID DATA EXTENDED DLC RX
-abbrev pub frameOf : List ℕ → Event
-frameOf v = event.Frame (getD v 0 0) (getD v 1 0 % 2 ^ 32) (getD v 2 0) (eqb (getD v 3 0) 1) (byte v 4) (eqb (getD v 5 0) 1)
+abbrev pub anyFrame : List ℕ → Line
+anyFrame v = hands (canFrame (getD v 1 0 % 2 ^ 32) (getD v 2 0) (eqb (getD v 3 0) 1) (byte v 4) (eqb (getD v 5 0) 1)) (getD v 0 0)
 
--- the event of row k, of a line's numbers
-unfoldable pub callAt : ℕ → List ℕ → Event
-callAt k v =
-    orEvent (eqb k 0) event.Fresh
-    (orEvent (eqb k 1) (event.Register (half v 0) (half v 1) (getD v 3 0) (getD v 4 0))
-    (orEvent (eqb k 2) (event.Step (half v 0) (getD v 1 0))
-    (orEvent (eqb k 3) (frameOf v)
-    (orEvent (eqb k 4) (event.Look (half v 0)) (event.Remove (half v 0) (getD v 1 0))))))
+-- the event of row k, of a line and its numbers
+unfoldable pub callAt : List ℕ → ℕ → List ℕ → Line
+callAt line k v =
+    orLine (eqb k 0) (bare (event.Other other.Fresh))
+    (orLine (eqb k 1) (registered (wordAt line 3) v)
+    (orLine (eqb k 2) (bare (event.Call (call.Step (half v 0) (getD v 1 0))))
+    (orLine (eqb k 3) (anyFrame v)
+    (orLine (eqb k 4) (bare (event.Call (call.Look (half v 0)))) (bare (event.Call (call.Remove (half v 0) (getD v 1 0))))))))
 
-abbrev pub calledBy : List ℕ → List ℕ → ℕ → Event
-calledBy line shape k = ifFit (fitOf line shape (argsOf line shape .good)) (callAt k (argsOf line shape .v))
+-- what a line with these words is, where they fit
+abbrev pub ifFits : Fitting → Line → Line
+ifFits fit.Good l = l
+ifFits (fit.Bad r) l = bad r
+
+abbrev pub calledBy : List ℕ → List ℕ → ℕ → Line
+calledBy line shape k = ifFits (fitOf line shape (argsOf line shape .good)) (callAt line k (argsOf line shape .v))
 
 -- a start's line is read by its command
-unfoldable pub called : List ℕ → List ℕ → ℕ → Event
-called line shape k = orEvent (eqb k 6) (started line) (calledBy line shape k)
+unfoldable pub called : List ℕ → List ℕ → ℕ → Line
+called line shape k = orLine (eqb k 6) (bare (started line)) (calledBy line shape k)
 
-abbrev pub eventBy : List ℕ → ℕ → Event
-eventBy line at = orEvent (leb (wordsIn events) at) (event.Error reason.NoSuchEvent) (called line (wordAt events (at + 1)) (at / 2))
+abbrev pub lineBy : List ℕ → ℕ → Line
+lineBy line at = orLine (leb (wordsIn events) at) (bad reason.NoSuchEvent) (called line (wordAt events (at + 1)) (at / 2))
 
 -- Blank lines and comments are nothing; a line has at most 4,096 bytes; one that begins with ( is a line of a log; else the first
 -- word says which event it is.
-unfoldable pub eventOf : List ℕ → Event
-eventOf line =
-    orEvent (eqb (length line) 0) event.Nothing
-    (orEvent (eqb (getD line 0 0) 0x23) event.Nothing
-    (orEvent (ltb 4096 (length line)) (event.Error reason.LineTooLong)
-    (orEvent (eqb (getD line 0 0) 0x28) (heardIn line)
-    (eventBy line (placeOf events (wordAt line 0))))))
+unfoldable pub readLine : List ℕ → Line
+readLine line =
+    orLine (eqb (length line) 0) (bare (event.Other other.Nothing))
+    (orLine (eqb (getD line 0 0) 0x23) (bare (event.Other other.Nothing))
+    (orLine (ltb 4096 (length line)) (bad reason.LineTooLong)
+    (orLine (eqb (getD line 0 0) 0x28) (heardIn line)
+    (lineBy line (placeOf events (wordAt line 0))))))

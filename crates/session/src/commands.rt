@@ -6,6 +6,7 @@ use crate::arguments::low8;
 use crate::arguments::low16;
 use crate::arguments::low32;
 use crate::event::Event;
+use crate::event::Other;
 use crate::event::Reason;
 use crate::table::COMMANDS;
 use crate::table::place;
@@ -14,6 +15,7 @@ use codec::registers::ControlMode;
 use codec::word::Word;
 use codec::word::signed_of;
 use motor::engine::command::Command;
+use station::call::Call;
 ghost use mathlib.Core.Path.{_≡_};
 ghost use Rattle.session.specs.Commands as spec;
 
@@ -24,14 +26,14 @@ pub(crate) fn started(line: &[u8]) -> Event
     let n = text::word_count(&COMMANDS);
     let at = place(&COMMANDS, text::word(line, 3));
     if n <= at {
-        return Event::Error(Reason::NoSuchCommand);
+        return Event::Other(Other::Error(Reason::NoSuchCommand));
     }
     let shape = text::word(&COMMANDS, at + 1);
     let args = arguments(line, shape);
     let v = args.v;
     match fit(line, shape, args.good) {
         Fitting::Good => start_of(at / 2, shape, v),
-        Fitting::Bad(reason) => Event::Error(reason),
+        Fitting::Bad(reason) => Event::Other(Other::Error(reason)),
     }
 }
 
@@ -41,13 +43,13 @@ fn start_of(k: usize, shape: &[u8], v: [u64; 8]) -> Event
 {
     let wide = too_wide(shape, v);
     if wide != 0 {
-        return Event::Error(Reason::BadWord(wide, b'V'));
+        return Event::Other(Other::Error(Reason::BadWord(wide, b'V')));
     }
-    Event::Start {
+    Event::Call(Call::Start {
         id: low16(v[0]),
-        time: v[1],
         command: command_of(k, v),
-    }
+        time: v[1],
+    })
 }
 
 // The word of a value that is wider than the kind before it, counted from 1; 0 for none.

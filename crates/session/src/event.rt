@@ -1,5 +1,9 @@
-// An event of a session.
-use motor::engine::command::Command;
+// What a line of a session says.
+use codec::bus::CanFrame;
+use motor::engine::requests::no_frame;
+use station::call::Call;
+ghost use mathlib.Core.Path.{_≡_};
+ghost use Rattle.session.specs.Events as spec;
 
 // Why a line isn't an event. Words are counted from 1; a letter says what a word is to be (see arguments).
 pub enum Reason {
@@ -18,40 +22,44 @@ pub enum Reason {
     ErrorFrame,
 }
 
-// What a line hands to the station. The model of a registration is word 4 of its line. A frame's payload is one number, its first
-// byte highest. Nothing is a blank line or a comment.
-pub enum Event {
+// What a line says besides calls: nothing, which is a blank line or a comment; no event; a fresh station.
+pub enum Other {
     Nothing,
     Error(Reason),
     Fresh,
-    Register {
-        id: u16,
-        host: u16,
-        wait: u64,
-        time: u64,
-    },
-    Start {
-        id: u16,
-        time: u64,
-        command: Command,
-    },
-    Step {
-        id: u16,
-        time: u64,
-    },
-    Frame {
-        time: u64,
-        id: u32,
-        data: u64,
-        extended: bool,
-        dlc: u8,
-        rx: bool,
-    },
-    Look {
-        id: u16,
-    },
-    Remove {
-        id: u16,
-        time: u64,
-    },
+}
+
+// A call on the station, or what a line says besides.
+pub enum Event {
+    Call(Call),
+    Other(Other),
+}
+
+// What a line says, and beside it the frame that is handed in; elsewhere the frame isn't looked at.
+pub struct Line {
+    pub event: Event,
+    pub frame: CanFrame,
+}
+
+// An event with no frame beside it.
+pub(crate) fn bare(event: Event) -> Line
+    ensures { λ r. ⌜ r ≡ spec.bare event ⌝ }
+{
+    let frame = no_frame();
+    Line { event, frame }
+}
+
+// A line that is no event.
+pub(crate) fn bad(reason: Reason) -> Line
+    ensures { λ r. ⌜ r ≡ spec.bad reason ⌝ }
+{
+    bare(Event::Other(Other::Error(reason)))
+}
+
+// A frame is handed in.
+pub(crate) fn hands(frame: CanFrame, time: u64) -> Line
+    ensures { λ r. ⌜ r ≡ spec.hands frame time ⌝ }
+{
+    let event = Event::Call(Call::Frame { time });
+    Line { event, frame }
 }

@@ -1,31 +1,34 @@
 // A frame heard: a line of a candump log.
 use crate::arguments::low8;
 use crate::arguments::low32;
-use crate::event::Event;
+use crate::event::Line;
 use crate::event::Reason;
+use crate::event::bad;
+use crate::event::hands;
+use crate::frame::can_frame;
 use text::Num;
 ghost use mathlib.Core.Path.{_≡_};
 ghost use Rattle.session.specs.Heard as spec;
 
 // (SECONDS.MICROS) IFACE ID#DATA, and perhaps R or T
-pub(crate) fn heard(line: &[u8]) -> Event
+pub(crate) fn heard(line: &[u8]) -> Line
     ensures { λ r. ⌜ r ≡ spec.heardIn (now (line .entry)) ⌝ }
 {
     let n = text::word_count(line);
     if n < 3 {
-        return Event::Error(Reason::LogWords);
+        return bad(Reason::LogWords);
     }
     if 4 < n {
-        return Event::Error(Reason::LogWords);
+        return bad(Reason::LogWords);
     }
     if text::word(line, 1).len() == 0 {
-        return Event::Error(Reason::LogWords);
+        return bad(Reason::LogWords);
     }
     if !is_direction(n, text::word(line, 3)) {
-        return Event::Error(Reason::Direction);
+        return bad(Reason::Direction);
     }
     let Num::Value(time) = stamp(text::word(line, 0)) else {
-        return Event::Error(Reason::Stamp);
+        return bad(Reason::Stamp);
     };
     frame_in(text::word(line, 2), time)
 }
@@ -79,18 +82,18 @@ fn milliseconds(seconds: Num, micros: Num) -> Num
 }
 
 // ID#DATA
-fn frame_in(w: &[u8], time: u64) -> Event
+fn frame_in(w: &[u8], time: u64) -> Line
     ensures { λ r. ⌜ r ≡ spec.frameIn (now (w .entry)) time ⌝ }
 {
     let end = bytes::scan::find(w, 0, w.len(), b'#');
     if w.len() <= end {
-        return Event::Error(Reason::FrameId);
+        return bad(Reason::FrameId);
     }
     let Num::Value(id) = id_of(&w[..end]) else {
-        return Event::Error(Reason::FrameId);
+        return bad(Reason::FrameId);
     };
     if 0x1FFF_FFFF < id {
-        return Event::Error(Reason::ErrorFrame);
+        return bad(Reason::ErrorFrame);
     }
     data_frame(&w[end + 1..], time, low32(id), end == 8)
 }
@@ -109,26 +112,20 @@ fn id_of(w: &[u8]) -> Num
 }
 
 // Up to eight bytes, two digits each. Where an R stands the frame is a remote one, and where a second # stands a CAN FD frame.
-fn data_frame(w: &[u8], time: u64, id: u32, extended: bool) -> Event
+fn data_frame(w: &[u8], time: u64, id: u32, extended: bool) -> Line
     ensures { λ r. ⌜ r ≡ spec.dataFrame (now (w .entry)) time id extended ⌝ }
 {
     if begins(w, b'R') {
-        return Event::Error(Reason::RemoteFrame);
+        return bad(Reason::RemoteFrame);
     }
     if begins(w, b'#') {
-        return Event::Error(Reason::FdFrame);
+        return bad(Reason::FdFrame);
     }
     let Num::Value(data) = data_of(w) else {
-        return Event::Error(Reason::FrameData);
+        return bad(Reason::FrameData);
     };
-    Event::Frame {
-        time,
-        id,
-        data,
-        extended,
-        dlc: low8(w.len() as u64 / 2),
-        rx: true,
-    }
+    let dlc = low8(w.len() as u64 / 2);
+    hands(can_frame(id, data, extended, dlc, true), time)
 }
 
 fn begins(w: &[u8], b: u8) -> bool

@@ -2,6 +2,7 @@
 mod arguments;
 mod commands;
 pub mod event;
+mod frame;
 mod heard;
 pub mod line;
 pub mod table;

@@ -1,4 +1,4 @@
-// A line, and which event it is.
+// A line, and what it says.
 use crate::arguments::Fitting;
 use crate::arguments::arguments;
 use crate::arguments::fit;
@@ -7,11 +7,19 @@ use crate::arguments::low16;
 use crate::arguments::low32;
 use crate::commands::started;
 use crate::event::Event;
+use crate::event::Line;
+use crate::event::Other;
 use crate::event::Reason;
+use crate::event::bad;
+use crate::event::bare;
+use crate::event::hands;
+use crate::frame::can_frame;
 use crate::heard::heard;
 use crate::table::EVENTS;
 use crate::table::START;
 use crate::table::place;
+use codec::model::model_named;
+use station::call::Call;
 ghost use mathlib.Core.Path.{_≡_};
 ghost use lib.ListN.{length};
 ghost use Prim.Native.Nat.{_≤_};
@@ -34,18 +42,18 @@ pub fn shown(line: &[u8]) -> usize
     n
 }
 
-// The event of a line without its line end. A line is any bytes.
-pub fn event_of(line: &[u8]) -> Event
-    ensures { λ r. ⌜ r ≡ spec.eventOf (now (line .entry)) ⌝ }
+// What a line without its line end says. A line is any bytes.
+pub fn read_line(line: &[u8]) -> Line
+    ensures { λ r. ⌜ r ≡ spec.readLine (now (line .entry)) ⌝ }
 {
     if line.len() == 0 {
-        return Event::Nothing;
+        return bare(Event::Other(Other::Nothing));
     }
     if line[0] == b'#' {
-        return Event::Nothing;
+        return bare(Event::Other(Other::Nothing));
     }
     if LONGEST < line.len() {
-        return Event::Error(Reason::LineTooLong);
+        return bad(Reason::LineTooLong);
     }
     if line[0] == b'(' {
         return heard(line);
@@ -53,60 +61,62 @@ pub fn event_of(line: &[u8]) -> Event
     let n = text::word_count(&EVENTS);
     let at = place(&EVENTS, text::word(line, 0));
     if n <= at {
-        return Event::Error(Reason::NoSuchEvent);
+        return bad(Reason::NoSuchEvent);
     }
     called(line, text::word(&EVENTS, at + 1), at / 2)
 }
 
 // The event of row k. A start's line is read by its command.
-fn called(line: &[u8], shape: &[u8], k: usize) -> Event
+fn called(line: &[u8], shape: &[u8], k: usize) -> Line
     ensures { λ r. ⌜ r ≡ spec.called (now (line .entry)) (now (shape .entry)) k ⌝ }
 {
     if k == START {
-        return started(line);
+        return bare(started(line));
     }
     let args = arguments(line, shape);
     let v = args.v;
     match fit(line, shape, args.good) {
-        Fitting::Good => call_of(k, v),
-        Fitting::Bad(reason) => Event::Error(reason),
+        Fitting::Good => call_of(line, k, v),
+        Fitting::Bad(reason) => bad(reason),
     }
 }
 
-fn call_of(k: usize, v: [u64; 8]) -> Event
-    ensures { λ r. ⌜ r ≡ spec.callAt k v ⌝ }
+fn call_of(line: &[u8], k: usize, v: [u64; 8]) -> Line
+    ensures { λ r. ⌜ r ≡ spec.callAt (now (line .entry)) k v ⌝ }
 {
     match k {
-        0 => Event::Fresh,
-        1 => Event::Register {
-            id: low16(v[0]),
-            host: low16(v[1]),
-            wait: v[3],
-            time: v[4],
-        },
-        2 => Event::Step {
+        0 => bare(Event::Other(Other::Fresh)),
+        1 => registered(text::word(line, 3), v),
+        2 => bare(Event::Call(Call::Step {
             id: low16(v[0]),
             time: v[1],
-        },
-        3 => frame_of(v),
-        4 => Event::Look { id: low16(v[0]) },
-        _ => Event::Remove {
+        })),
+        3 => any_frame(v),
+        4 => bare(Event::Call(Call::Look { id: low16(v[0]) })),
+        _ => bare(Event::Call(Call::Remove {
             id: low16(v[0]),
             time: v[1],
-        },
+        })),
     }
+}
+
+// register ID HOST MODEL WAIT TIME
+fn registered(model: &[u8], v: [u64; 8]) -> Line
+    ensures { λ r. ⌜ r ≡ spec.registered (now (model .entry)) v ⌝ }
+{
+    bare(Event::Call(Call::Register {
+        id: low16(v[0]),
+        host: low16(v[1]),
+        model: model_named(model),
+        wait: v[3],
+        time: v[4],
+    }))
 }
 
 // frame TIME ID DATA EXTENDED DLC RX
-fn frame_of(v: [u64; 8]) -> Event
-    ensures { λ r. ⌜ r ≡ spec.frameOf v ⌝ }
+fn any_frame(v: [u64; 8]) -> Line
+    ensures { λ r. ⌜ r ≡ spec.anyFrame v ⌝ }
 {
-    Event::Frame {
-        time: v[0],
-        id: low32(v[1]),
-        data: v[2],
-        extended: v[3] == 1,
-        dlc: low8(v[4]),
-        rx: v[5] == 1,
-    }
+    let frame = can_frame(low32(v[1]), v[2], v[3] == 1, low8(v[4]), v[5] == 1);
+    hands(frame, v[0])
 }

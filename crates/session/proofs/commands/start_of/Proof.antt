@@ -18,11 +18,11 @@ array-read-low16 c = search needs
 low16-requires : tie.Need-low16-requires
 low16-requires c κs = search needs
 
-array-read-t15 : tie.Need-array-read-t15
-array-read-t15 c = search needs
-
 command-of-requires : tie.Need-command-of-requires
 command-of-requires c κs = search needs
+
+array-read-t17 : tie.Need-array-read-t17
+array-read-t17 c = search needs
 
 returns-2 : tie.Need-returns-2
 unfolding startAt
@@ -40,6 +40,6 @@ start-of-spec =
     returns
     array-read-low16
     low16-requires
-    array-read-t15
     command-of-requires
+    array-read-t17
     returns-2)

@@ -14,13 +14,17 @@ use Rattle.session.proofs.heard.frame_in.Tie as tie
 find-requires : tie.Need-find-requires
 find-requires c κs = search needs
 
+bad-requires : tie.Need-bad-requires
+bad-requires c κs = search needs
+
 returns : tie.Need-returns
 unfolding frameIn
 returns c =
-    let p = c .before in
+    let d = c .before in
+    let p = d .before in
     let w = p .before .before .args .w .now in
     let f : p .find .result ≡ indexOf 0x23 w = p .find .ensures .0 ∙ whole 0x23 w in
-    rw (← f, le-leb _ _ (c .if1 .taken))
+    rw (← f, le-leb _ _ (d .if1 .taken)) (c .bad .ensures)
 
 slice-aggregate-id-of : tie.Need-slice-aggregate-id-of
 slice-aggregate-id-of c = sym (length-take-le _ _ (c .before .before .find .ensures .1))
@@ -34,21 +38,29 @@ enum-known-id c = search needs
 enum-told : tie.Need-enum-told
 enum-told c = search needs
 
+bad-requires-2 : tie.Need-bad-requires-2
+bad-requires-2 c κs = search needs
+
 returns-2 : tie.Need-returns-2
 unfolding frameIn
 returns-2 c =
-    let p = c .before .before .before .before .before in
+    let d = c .before in
+    let p = d .before .before .before .before .before in
     let w = p .before .before .args .w .now in
     let f : p .find .result ≡ indexOf 0x23 w = p .find .ensures .0 ∙ whole 0x23 w in
-    rw (← f, lt-leb _ _ (c .before .before .before .before .if1 .left), ← c .before .before .id-of .ensures, c .enum-told .given .1)
+    rw (← f, lt-leb _ _ (d .before .before .before .before .if1 .left), ← d .before .before .id-of .ensures, d .enum-told .given .1) (c .bad2 .ensures)
+
+bad-requires-3 : tie.Need-bad-requires-3
+bad-requires-3 c κs = search needs
 
 returns-3 : tie.Need-returns-3
 unfolding frameIn
 returns-3 c =
-    let p = c .before .before .before .before .before .before .before in
+    let d = c .before in
+    let p = d .before .before .before .before .before .before .before in
     let w = p .before .before .args .w .now in
     let f : p .find .result ≡ indexOf 0x23 w = p .find .ensures .0 ∙ whole 0x23 w in
-    rw (← f, lt-leb _ _ (c .before .before .before .before .before .before .if1 .left), ← c .before .before .before .before .id-of .ensures, c .before .before .id .given .1, lt-ltb _ _ (c .if2 .taken))
+    rw (← f, lt-leb _ _ (d .before .before .before .before .before .before .if1 .left), ← d .before .before .before .before .id-of .ensures, d .before .before .id .given .1, lt-ltb _ _ (d .if2 .taken)) (c .bad3 .ensures)
 
 add-data-frame : tie.Need-add-data-frame
 add-data-frame c = search needs
@@ -81,12 +93,15 @@ frame-in-spec =
     tie.close
     (tie.spec
     find-requires
+    bad-requires
     returns
     slice-aggregate-id-of
     id-of-requires
     enum-known-id
     enum-told
+    bad-requires-2
     returns-2
+    bad-requires-3
     returns-3
     add-data-frame
     sub-data-frame

@@ -1,27 +1,37 @@
 -- Right because the tests are the definition's, in its order.
 use borrow.Author.Tests.{eq-eqb, le-leb, le-ltb, lt-leb, lt-ltb, ne-eqb}
-use Rattle.session.specs.Lines.{eventOf}
+use Rattle.session.specs.Lines.{readLine}
 use borrow.Author.Needs.{needs}
-use Rattle.session.proofs.line.event_of.Statement.{statement}
-use Rattle.session.proofs.line.event_of.Tie as tie
+use Rattle.session.proofs.line.read_line.Statement.{statement}
+use Rattle.session.proofs.line.read_line.Tie as tie
+
+bare-requires : tie.Need-bare-requires
+bare-requires c κs = search needs
 
 returns : tie.Need-returns
-unfolding eventOf
-returns c = rw (eq-eqb _ _ (c .if1 .taken))
+unfolding readLine
+returns c = let p = c .before in rw (eq-eqb _ _ (p .if1 .taken)) (c .bare .ensures)
 
 shared-slice-read-if2 : tie.Need-shared-slice-read-if2
 shared-slice-read-if2 c = search needs
 
+bare-requires-2 : tie.Need-bare-requires-2
+bare-requires-2 c κs = search needs
+
 returns-2 : tie.Need-returns-2
-unfolding eventOf
-returns-2 c = rw (ne-eqb _ _ (c .before .before .if1 .left), eq-eqb _ _ (c .if2 .taken))
+unfolding readLine
+returns-2 c = let p = c .before in rw (ne-eqb _ _ (p .before .before .if1 .left), eq-eqb _ _ (p .if2 .taken)) (c .bare2 .ensures)
+
+bad-requires : tie.Need-bad-requires
+bad-requires c κs = search needs
 
 returns-3 : tie.Need-returns-3
-unfolding eventOf
+unfolding readLine
 returns-3 c =
-    let p1 = c .before in
+    let d = c .before in
+    let p1 = d .before in
     let p2 = p1 .before .before in
-    rw (ne-eqb _ _ (p2 .if1 .left), ne-eqb _ _ (p1 .if2 .left), lt-ltb _ _ (c .if3 .taken))
+    rw (ne-eqb _ _ (p2 .if1 .left), ne-eqb _ _ (p1 .if2 .left), lt-ltb _ _ (d .if3 .taken)) (c .bad .ensures)
 
 shared-slice-read-if4 : tie.Need-shared-slice-read-if4
 shared-slice-read-if4 c = search needs
@@ -30,7 +40,7 @@ heard-requires : tie.Need-heard-requires
 heard-requires c κs = search needs
 
 returns-4 : tie.Need-returns-4
-unfolding eventOf
+unfolding readLine
 returns-4 c =
     let p1 = c .before in
     let p2 = p1 .before .before in
@@ -53,17 +63,21 @@ word-requires c κs = search needs
 place-requires : tie.Need-place-requires
 place-requires c κs = search needs
 
+bad-requires-2 : tie.Need-bad-requires-2
+bad-requires-2 c κs = search needs
+
 returns-5 : tie.Need-returns-5
-unfolding eventOf
+unfolding readLine
 returns-5 c =
-    let p1 = c .before in
+    let d = c .before in
+    let p1 = d .before in
     let p2 = p1 .before in
     let p3 = p2 .before .before in
     let p4 = p3 .before .before in
     let p5 = p4 .before .before in
     let p6 = p5 .before in
     let p7 = p6 .before .before in
-    rw (ne-eqb _ _ (p7 .if1 .left), ne-eqb _ _ (p6 .if2 .left), le-ltb _ _ (p5 .if3 .left), ne-eqb _ _ (p4 .if4 .left), ← p3 .word-count .ensures, ← p2 .word .ensures, ← p1 .place .ensures, le-leb _ _ (c .if5 .taken))
+    rw (ne-eqb _ _ (p7 .if1 .left), ne-eqb _ _ (p6 .if2 .left), le-ltb _ _ (p5 .if3 .left), ne-eqb _ _ (p4 .if4 .left), ← p3 .word-count .ensures, ← p2 .word .ensures, ← p1 .place .ensures, le-leb _ _ (d .if5 .taken)) (c .bad2 .ensures)
 
 slice-aggregate-word : tie.Need-slice-aggregate-word
 slice-aggregate-word c = search needs
@@ -78,7 +92,7 @@ called-requires : tie.Need-called-requires
 called-requires c κs = search needs
 
 returns-6 : tie.Need-returns-6
-unfolding eventOf
+unfolding readLine
 returns-6 c =
     let p1 = c .before in
     let p2 = p1 .before .before in
@@ -91,13 +105,16 @@ returns-6 c =
     let p9 = p8 .before .before in
     rw (ne-eqb _ _ (p9 .if1 .left), ne-eqb _ _ (p8 .if2 .left), le-ltb _ _ (p7 .if3 .left), ne-eqb _ _ (p6 .if4 .left), ← p5 .word-count .ensures, ← p4 .word .ensures, ← p3 .place .ensures, lt-leb _ _ (p2 .if5 .left), ← p1 .word2 .ensures) (c .called .ensures)
 
-pub event-of-spec : {M : Type 1} → statement M
-event-of-spec =
+pub read-line-spec : {M : Type 1} → statement M
+read-line-spec =
     tie.close
     (tie.spec
+    bare-requires
     returns
     shared-slice-read-if2
+    bare-requires-2
     returns-2
+    bad-requires
     returns-3
     shared-slice-read-if4
     heard-requires
@@ -107,6 +124,7 @@ event-of-spec =
     slice-aggregate-place
     word-requires
     place-requires
+    bad-requires-2
     returns-5
     slice-aggregate-word
     add-word
