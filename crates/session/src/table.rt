@@ -6,16 +6,19 @@ ghost use Rattle.session.specs.Table.{placeOf};
 ghost use Rattle.text.specs.Words.{wordsIn};
 
 // The commands of a start, each with the shape of the whole line.
-pub const COMMANDS: [u8; 529] = *b"ping ITXT ping_with_host_id ITXIT set_mode ITXC ensure_control_mode ITXCT set_zero_position ITX save_parameters ITX get_protocol_flag ITXT set_protocol ITXPT set_device_id ITXB enable ITX disable ITX clear_error ITX set_active_report ITXF send_cmd_mit ITXWWWWW set_velocity_target ITXW get_control_mode ITXT controlled_stop ITXT write_parameter ITXHKW send_cmd_pos_vel_csp ITXWW send_cmd_pos_vel_pp ITXWWW request_parameter ITXH get_parameter ITXHT get_parameter_with_host_id ITXHIT get_parameter_f32 ITXHT get_parameter_i8 ITXHT";
+pub const COMMANDS: [u8; 529] =
+    *b"ping ITXT ping_with_host_id ITXIT set_mode ITXC ensure_control_mode ITXCT set_zero_position ITX save_parameters ITX get_protocol_flag ITXT set_protocol ITXPT set_device_id ITXB enable ITX disable ITX clear_error ITX set_active_report ITXF send_cmd_mit ITXWWWWW set_velocity_target ITXW get_control_mode ITXT controlled_stop ITXT write_parameter ITXHKW send_cmd_pos_vel_csp ITXWW send_cmd_pos_vel_pp ITXWWW request_parameter ITXH get_parameter ITXHT get_parameter_with_host_id ITXHIT get_parameter_f32 ITXHT get_parameter_i8 ITXHT";
 
 // The events but lines of a log. fresh has no argument; a start's line goes on as its command says.
-pub const EVENTS: [u8; 69] = *b"fresh  register IIXTT step IT frame TWDFBF look I remove IT start ITX";
+pub const EVENTS: [u8; 69] =
+    *b"fresh  register IIXTT step IT frame TWDFBF look I remove IT start ITX";
 
 // The row of a start.
 pub(crate) const START: usize = 6;
 
 // The modes, and the kinds of a value.
 pub const MODES: [u8; 19] = *b"mit pp velocity csp";
+
 pub const KINDS: [u8; 17] = *b"i8 u8 u16 u32 f32";
 
 // Where a name stands among the words of a table; as many as these for no name.
