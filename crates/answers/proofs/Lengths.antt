@@ -45,6 +45,7 @@ use Rattle.motor.specs.declared.readings.Listing.{Listing}
 use Rattle.motor.specs.Calls.{isIdle}
 use Rattle.motor.specs.Readings.{noEntry}
 use Rattle.station.specs.declared.station.Looked.{Looked}
+use Rattle.session.specs.Table.{commands, modes}
 use Rattle.text.specs.Ascii.{ascii}
 use Rattle.text.specs.Words.{wordAt}
 use Rattle.text.proofs.TextLengths.{Short, words, none, wider, _&_, either, digits-short, decimal-short, widthsOf, fields-short, word-short, wordsUpto, words-few}
@@ -158,7 +159,7 @@ outcome-short : (o : Outcome) (result : List ℕ) → Short (outcomeText o resul
 unfolding outcomeText
 outcome-short outcome.Done result = wider (words (ascii "none")) (omega arith)
 outcome-short (outcome.Ping device responder) result = ping-short device responder result
-outcome-short (outcome.Mode m) result = wider (words (ascii "mode ") & word-short (ascii "mit pp velocity csp") (modePlace m)) (omega arith)
+outcome-short (outcome.Mode m) result = wider (words (ascii "mode ") & word-short modes (modePlace m)) (omega arith)
 outcome-short (outcome.Value v) result = wider (words (ascii "value ") & value-short v) (omega arith)
 outcome-short (outcome.Flag flag) result = wider (named-short (ascii "flag") flag (ascii "2")) (omega arith)
 outcome-short (outcome.F32 w) result = wider (named-short (ascii "f32") (w .bits) (ascii "8")) (omega arith)
@@ -225,13 +226,14 @@ gains-short : (g : Gains) → Short (gainsText g) 24
 unfolding gainsText
 gains-short g = words (ascii "gains") & fields-short _ (ascii "88") & words endOfLine
 
-running-short : (op : Operation) (c : Command) → Short (runningText op c) 426
+-- the table of commands may grow to 766 bytes
+running-short : (op : Operation) (c : Command) → Short (runningText op c) 800
 unfolding runningText
 running-short op c =
     either (isIdle (op .phase)) (wider (words (ascii "running none\n")) (omega arith))
-    (wider (words (ascii "running ") & word-short _ (commandPlace c) & line-short (ascii " due") (op .due) (ascii "D")) (omega arith))
+    (wider (words (ascii "running ") & word-short commands (2 * commandPlace c) & line-short (ascii " due") (op .due) (ascii "D")) (omega arith))
 
-held-short : (s : State) → Short (heldText s) 1006
+held-short : (s : State) → Short (heldText s) 1380
 unfolding heldText
 held-short s =
     motor-short _ _ _ _ & line-short (ascii "clock") (s .clock) (ascii "D")
@@ -255,14 +257,14 @@ readings-short : (l : Listing) → Short (readingsText l) 2496
 unfolding readingsText
 readings-short l = wider (readings-upto (l .entries) (least (l .count) 96)) (omega (arith, least-by (l .count) 96 _ refl))
 
-seen-short : (s : Seen) → Short (seenText s) 3506
+seen-short : (s : Seen) → Short (seenText s) 3880
 unfolding seenText
 seen-short s = held-short (s .state) & readings-short (s .readings) & words (ascii "end\n")
 
-looked-by : (c : Checked) (s : Seen) → Short (lookedBy c s) 3506
+looked-by : (c : Checked) (s : Seen) → Short (lookedBy c s) 3880
 unfolding lookedBy
 looked-by checked.Passed s = seen-short s
 looked-by (checked.Refused r) s = wider (refused-short r) (omega arith)
 
-pub looked-fits : (l : Looked) → Short (lookedText l) 3506
+pub looked-fits : (l : Looked) → Short (lookedText l) 3880
 looked-fits l = looked-by (l .said) (l .seen)

@@ -1,5 +1,5 @@
 -- Names as the Rust has them. Definitions only.
-use Prim.Native.Nat.{ℕ}
+use Prim.Native.Nat.{ℕ, _*_}
 use mathlib.Core.List.{List}
 use Rattle.codec.specs.declared.model.Model.{Model}
 use Rattle.codec.specs.declared.model.Model.the-variants as model
@@ -7,10 +7,10 @@ use Rattle.codec.specs.declared.registers.ControlMode.{ControlMode}
 use Rattle.codec.specs.declared.registers.ControlMode.the-variants as mode
 use Rattle.motor.specs.declared.engine.command.Command.{Command}
 use Rattle.motor.specs.declared.engine.command.Command.the-variants as command
-use Rattle.text.specs.Ascii.{ascii}
+use Rattle.session.specs.Table.{commands, modes}
 use Rattle.text.specs.Words.{wordAt}
 
--- the place of a mode, a model and a command among their names
+-- the place of a mode and of a model among their names, and the row of a command
 unfoldable pub modePlace : ControlMode → ℕ
 modePlace mode.Mit = 0
 modePlace mode.Position = 1
@@ -55,8 +55,8 @@ commandPlace (command.GetParameterF32 id t) = 23
 commandPlace (command.GetParameterI8 id t) = 24
 
 abbrev pub modeName : ControlMode → List ℕ
-modeName m = wordAt (ascii "mit pp velocity csp") (modePlace m)
+modeName m = wordAt modes (modePlace m)
 
 -- the Rust method's name
 abbrev pub commandName : Command → List ℕ
-commandName c = wordAt (ascii "ping ping_with_host_id set_mode ensure_control_mode set_zero_position save_parameters get_protocol_flag set_protocol set_device_id enable disable clear_error set_active_report send_cmd_mit set_velocity_target get_control_mode controlled_stop write_parameter send_cmd_pos_vel_csp send_cmd_pos_vel_pp request_parameter get_parameter get_parameter_with_host_id get_parameter_f32 get_parameter_i8") (commandPlace c)
+commandName c = wordAt commands (2 * commandPlace c)

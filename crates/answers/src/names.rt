@@ -2,6 +2,8 @@
 use codec::model::Model;
 use codec::registers::ControlMode;
 use motor::engine::command::Command;
+use session::table::COMMANDS;
+use session::table::MODES;
 ghost use mathlib.Core.Path.{_≡_};
 ghost use Rattle.text.specs.Put.{Put};
 ghost use Rattle.codec.specs.Models.{nameOf};
@@ -12,7 +14,7 @@ pub(crate) fn put_mode(mode: ControlMode, out: &mut [u8], at: usize) -> usize
     ensures { λ r. ⌜ Put (now (out .entry)) at (modeName mode) (now (out .exit)) r ⌝ }
 {
     let k = mode_place(mode);
-    let name = text::word(b"mit pp velocity csp", k);
+    let name = text::word(&MODES, k);
     text::put_bytes(out, at, name)
 }
 
@@ -55,15 +57,13 @@ fn model_place(model: Model) -> usize
 pub(crate) fn put_command(command: Command, out: &mut [u8], at: usize) -> usize
     ensures { λ r. ⌜ Put (now (out .entry)) at (commandName command) (now (out .exit)) r ⌝ }
 {
-    let k = command_place(command);
-    let name = text::word(
-        b"ping ping_with_host_id set_mode ensure_control_mode set_zero_position save_parameters get_protocol_flag set_protocol set_device_id enable disable clear_error set_active_report send_cmd_mit set_velocity_target get_control_mode controlled_stop write_parameter send_cmd_pos_vel_csp send_cmd_pos_vel_pp request_parameter get_parameter get_parameter_with_host_id get_parameter_f32 get_parameter_i8",
-        k,
-    );
+    let k = command_place(command) as usize;
+    let name = text::word(&COMMANDS, 2 * k);
     text::put_bytes(out, at, name)
 }
 
-fn command_place(command: Command) -> usize
+// The row of a command in the table.
+fn command_place(command: Command) -> u8
     ensures { λ r. ⌜ r ≡ commandPlace command ⌝ }
 {
     match command {

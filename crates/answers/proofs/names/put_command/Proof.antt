@@ -1,4 +1,4 @@
--- Right because the name is the word at its place.
+-- Right because the name is the first word of the row.
 use borrow.Author.Needs.{needs}
 use Rattle.answers.proofs.names.put_command.Statement.{statement}
 use Rattle.answers.proofs.names.put_command.Tie as tie
@@ -6,8 +6,14 @@ use Rattle.answers.proofs.names.put_command.Tie as tie
 command-place-requires : tie.Need-command-place-requires
 command-place-requires c κs = search needs
 
+cast-k : tie.Need-cast-k
+cast-k c = search needs
+
 slice-aggregate-word : tie.Need-slice-aggregate-word
 slice-aggregate-word c = search needs
+
+mul-word : tie.Need-mul-word
+mul-word c = search needs
 
 word-requires : tie.Need-word-requires
 word-requires c κs = search needs
@@ -29,7 +35,9 @@ put-command-spec =
     tie.close
     (tie.spec
     command-place-requires
+    cast-k
     slice-aggregate-word
+    mul-word
     word-requires
     put-bytes-requires
     same-length
