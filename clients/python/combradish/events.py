@@ -8,7 +8,7 @@ from typing import Any
 
 from .commands import COMMANDS, Command
 from .shapes import checked, printed, read
-from .values import Frame, Word
+from .values import Frame, Word, of_type
 
 
 class Called:
@@ -59,8 +59,7 @@ class Start(Called):
     command: Command
 
     def __post_init__(self) -> None:
-        if not isinstance(self.command, Command):
-            raise ValueError(f"a Command is asked for, not {self.command!r}")
+        of_type(Command, self.command)
 
     @property
     def shape(self) -> str:
@@ -115,8 +114,7 @@ class Heard:
     frame: Frame
 
     def __post_init__(self) -> None:
-        if not isinstance(self.frame, Frame):
-            raise ValueError(f"a Frame is asked for, not {self.frame!r}")
+        of_type(Frame, self.frame)
 
     @property
     def line(self) -> str:

@@ -11,7 +11,7 @@ from collections.abc import Callable, Iterable, Sequence
 from dataclasses import dataclass
 from typing import Any
 
-from .values import MOST, Kind, Mode, Value, Word, as_word, plain_word, whole
+from .values import MOST, Kind, Mode, Value, Word, as_word, of_type, plain_word, whole
 
 Argument = float | str | bytes | Mode | Value  # an int, a bool and a Word are floats to a type checker
 
@@ -41,13 +41,7 @@ def counted(what: str, most: int, form: str = "{}") -> Part:
 
 def typed(kind: type[Any], text: Callable[[Any], str], read: Callable[..., Argument]) -> Part:
     """A value of a type, which has checked it."""
-
-    def check(given: object) -> Argument:
-        if not isinstance(given, kind):
-            raise ValueError(f"a {kind.__name__} is asked for, not {given!r}")
-        return given
-
-    return Part(check, text, read)
+    return Part(lambda given: of_type(kind, given), text, read)
 
 
 def payload(given: object) -> bytes:

@@ -6,9 +6,17 @@ import re
 import struct
 from dataclasses import dataclass
 from enum import Enum
-from typing import assert_never
+from typing import TypeVar, assert_never
 
 MOST = 2**64 - 1
+T = TypeVar("T")
+
+
+def of_type(kind: type[T], given: object) -> T:
+    """What is given, if it is of a type."""
+    if not isinstance(given, kind):
+        raise ValueError(f"a {kind.__name__} is asked for, not {given!r}")
+    return given
 
 
 def whole(name: str, number: object, most: int = MOST) -> int:
@@ -114,8 +122,7 @@ class Value:
     bits: int
 
     def __post_init__(self) -> None:
-        if not isinstance(self.kind, Kind):
-            raise ValueError(f"a Kind is asked for, not {self.kind!r}")
+        of_type(Kind, self.kind)
         whole(f"the bits of a {self.kind.value}", self.bits, 16**self.kind.width - 1)
 
     @staticmethod
@@ -185,8 +192,7 @@ class Frame:
 
     def __post_init__(self) -> None:
         whole("a frame's time", self.micros, (MOST + 1) * 1000 - 1)
-        if not isinstance(self.extended, bool):
-            raise ValueError(f"extended is True or False, not {self.extended!r}")
+        of_type(bool, self.extended)
         whole("a frame's id", self.id, 0x1FFF_FFFF if self.extended else 0xFFF)
         if not isinstance(self.data, bytes) or len(self.data) > 8:
             raise ValueError(f"a frame's data is at most 8 bytes, not {self.data!r}")

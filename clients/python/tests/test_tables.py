@@ -16,7 +16,8 @@ from pathlib import Path
 sys.path.insert(0, str(Path(__file__).resolve().parents[1]))
 
 from combradish import (  # noqa: E402
-    COMMANDS, EVENTS, Command, Error, Mode, Reason, Refused, Sent, Station, Value, Waiting, Word, parse_event, program_of,
+    COMMANDS, ENDING, EVENTS, Command, Error, Kind, Mode, Reason, Refusal, Refused, Sent, Station, Value, Waiting,
+    Word, parse_event, program_of,
 )  # fmt: skip
 from combradish.shapes import PARTS, parts  # noqa: E402
 
@@ -105,6 +106,17 @@ class Shapes(unittest.TestCase):
         self.assertEqual(list(events), list(EVENTS))
         self.assertEqual({**events, "start": start}, {name: row.shape for name, row in EVENTS.items()})
 
+    def test_modes_and_kinds(self) -> None:
+        """The names are those that replay says."""
+        said = {letters: re.split(", | or ", text) for text, (letters, _) in WANTED.items()}
+        self.assertEqual([mode.value for mode in Mode], said["C"])
+        self.assertEqual([(kind.value, kind.name) for kind in Kind], [(name, name.upper()) for name in said["K"]])
+        with Station(REPLAY) as station:
+            for kind in Kind:
+                for digits, good in ((kind.width, True), (kind.width + 1, False)):
+                    line = f"start 1 1 write_parameter 0x7005 {kind.value} 0x{'F' * digits}"
+                    self.assertEqual(isinstance(station.say(line), Refused), good, line)
+
     def test_every_letter_is_known(self) -> None:
         rows = [*COMMANDS.values(), *(row.shape for row in EVENTS.values())]
         self.assertEqual({part for shape in rows for part in parts(shape)}, set(PARTS))
@@ -177,6 +189,8 @@ class Refusals(unittest.TestCase):
                 *before, last = self.answers(station, lines)
                 self.assertEqual((last[:2], len(last) - 2), (["refused", str(number)], len(Reason(number).carries)), last)
                 self.assertNotIn("refused", [words[0] for words in before], number)
+                if number in ENDING:
+                    self.assertEqual(station.say("step 1 1000000"), Refused(Refusal(Reason.NOTHING_RUNNING)))
 
     def answers(self, station: Station, lines: list[str]) -> list[list[str]]:
         """The words of the answers. An operation that then runs is stepped on to its end."""

@@ -1,8 +1,6 @@
 //! What the tests share: the program's path, the recorded sample, a folder for files.
 use std::path::{Path, PathBuf};
 
-pub mod events;
-
 /// The file that COMBRADISH_REPLAY names, else target/bin/replay of the repository.
 pub fn program() -> PathBuf {
     match std::env::var_os("COMBRADISH_REPLAY") {
