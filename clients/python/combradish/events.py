@@ -33,7 +33,8 @@ class Called:
     @classmethod
     def of(cls, words: Sequence[str]) -> Any:
         """The event that the words after its name are."""
-        return cls(*read(EVENTS[NAMES[cls]].shape, words))
+        kind: Any = cls
+        return kind(*read(EVENTS[NAMES[cls]].shape, words))
 
 
 @dataclass(frozen=True)

@@ -62,6 +62,7 @@ def any_word(word: str) -> str:
     return word
 
 
+# Every argument, by its letters.
 PARTS: dict[str, Part] = {
     "T": counted("a time or a timeout", MOST),
     "I": counted("an id", MOST, "0x{:02X}"),
@@ -95,8 +96,8 @@ def printed(shape: str, arguments: Iterable[Argument]) -> list[str]:
     return [PARTS[part].text(argument) for part, argument in zip(parts(shape), arguments)]
 
 
-def read(shape: str, words: Sequence[str]) -> tuple[Argument, ...]:
-    """The arguments that words are."""
+def read(shape: str, words: Sequence[str]) -> tuple[Any, ...]:
+    """The arguments that words are, each of its letter's type."""
     if len(words) != len(shape):
         raise ValueError(f"{len(shape)} words are asked for, not {len(words)}")
     rest = iter(words)

@@ -104,7 +104,7 @@ class Shapes(unittest.TestCase):
         self.assertEqual(compiled("ping"), {name: start + shape for name, shape in COMMANDS.items()})
         events = compiled("fresh")
         self.assertEqual(list(events), list(EVENTS))
-        self.assertEqual({**events, "start": start}, {name: row.shape for name, row in EVENTS.items()})
+        self.assertEqual({**events, "start": events["start"] or start}, {name: row.shape for name, row in EVENTS.items()})
 
     def test_modes_and_kinds(self) -> None:
         """The names are those that replay says."""
@@ -134,11 +134,16 @@ class Shapes(unittest.TestCase):
             self.assertEqual(constructor(*arguments), Command(name, arguments))
 
 
+def source(crate: str) -> str:
+    """The Rattle files of a crate, one behind the other."""
+    files = sorted((ROOT / "crates" / crate / "src").rglob("*.rt"))
+    return "".join(file.read_text("utf-8") for file in files)
+
+
 def compiled(first: str) -> dict[str, str]:
     """The table of crates/session/src that begins with a name: one constant with names and shapes by turns, or one of names and,
     as the next constant, one of shapes. A name without a shape has the empty one."""
-    files = sorted((ROOT / "crates/session/src").rglob("*.rt"))
-    constants = [text for file in files for text in re.findall(r'b"([^"]*)"', file.read_text("utf-8"))]
+    constants = re.findall(r'b"([^"]*)"', source("session"))
     found = [place for place, text in enumerate(constants) if text.startswith(f"{first} ")]
     assert len(found) == 1, f"{len(found)} constants of crates/session/src begin with {first!r}"
     words = constants[found[0]].split(" ")
@@ -191,6 +196,13 @@ class Refusals(unittest.TestCase):
                 self.assertNotIn("refused", [words[0] for words in before], number)
                 if number in ENDING:
                     self.assertEqual(station.say("step 1 1000000"), Refused(Refusal(Reason.NOTHING_RUNNING)))
+
+    def test_no_refusal_is_left_out(self) -> None:
+        """`enum Refusal` of crates/codec/src, which replay is compiled from, has a case for each, in the order of the numbers."""
+        cases = re.search(r"pub enum Refusal \{\n(.*?)\n\}", source("codec"), re.DOTALL)
+        assert cases
+        carries = [carried != "" for carried in re.findall(r"^    [A-Z]\w* ?([({]?)", cases[1], re.MULTILINE)]
+        self.assertEqual([bool(reason.carries) for reason in Reason], carries)
 
     def answers(self, station: Station, lines: list[str]) -> list[list[str]]:
         """The words of the answers. An operation that then runs is stepped on to its end."""

@@ -55,7 +55,7 @@ macro_rules! refusals {
             /// The numbers of the table.
             pub const NUMBERS: [u8; [$($number),+].len()] = [$($number),+];
 
-            /// The number in the table of refusals, 1 to 23.
+            /// The number in document 01's table.
             pub fn number(self) -> u8 {
                 match self {
                     $(Refusal::$name { .. } => $number,)+

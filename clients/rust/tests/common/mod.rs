@@ -1,6 +1,9 @@
 //! What the tests share: the program's path, the recorded sample, a folder for files.
 use std::path::{Path, PathBuf};
 
+pub mod replay;
+pub mod sources;
+
 /// The file that COMBRADISH_REPLAY names, else target/bin/replay of the repository.
 pub fn program() -> PathBuf {
     match std::env::var_os("COMBRADISH_REPLAY") {
