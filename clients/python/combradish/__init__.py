@@ -8,16 +8,17 @@
 """
 
 from .answers import Answer, Error, Finished, Ok, ProtocolFlag, Refused, Result, Sent, Unexpected, Waiting, read_answer
-from .commands import Command
-from .events import AnyFrame, Event, Fresh, Heard, Look, Register, Remove, Start, Step, parse_event
+from .commands import COMMANDS, Command
+from .events import EVENTS, AnyFrame, Event, Fresh, Heard, Look, Register, Remove, Start, Step, parse_event
 from .held import Fault, Feedback, Held, PingReply, Running
 from .parameters import PARAMETERS, kind_of
+from .refusals import ENDING, Reason, Refusal
 from .station import Died, Station, program_of
-from .values import ENDING, Frame, Kind, Mode, Reason, Refusal, Value, Word, value, word
+from .values import Frame, Kind, Mode, Value, Word, value, word
 
 __all__ = [
-    "Answer", "AnyFrame", "Command", "Died", "ENDING", "Error", "Event", "Fault", "Feedback", "Finished", "Frame", "Fresh",
-    "Heard", "Held", "Kind", "Look", "Mode", "Ok", "PARAMETERS", "PingReply", "ProtocolFlag", "Reason", "Refusal",
+    "Answer", "AnyFrame", "COMMANDS", "Command", "Died", "ENDING", "EVENTS", "Error", "Event", "Fault", "Feedback", "Finished",
+    "Frame", "Fresh", "Heard", "Held", "Kind", "Look", "Mode", "Ok", "PARAMETERS", "PingReply", "ProtocolFlag", "Reason", "Refusal",
     "Refused", "Register", "Remove", "Result", "Running", "Sent", "Start", "Station", "Step", "Unexpected", "Value",
     "Waiting", "Word",
     "kind_of", "parse_event", "program_of", "read_answer", "value", "word",

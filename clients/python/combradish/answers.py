@@ -5,12 +5,13 @@ from __future__ import annotations
 import re
 from collections.abc import Callable
 from dataclasses import dataclass
+from typing import assert_never
 
+from .events import answers_of
 from .held import Held, PingReply, held_of
-from .values import Frame, Mode, Refusal, Value, Word, decimal, digits, signed
+from .refusals import Refusal
+from .values import Frame, Mode, Value, Word, decimal, digits, signed
 
-TAKEN = ("fresh", "register", "heard", "frame", "remove")
-STEPS = ("start", "step")
 SENT = re.compile(r"\((0|[1-9][0-9]*)\.[0-9]{3}000\) can0 [0-9A-F]{8}#[0-9A-F]{16}")
 
 
@@ -49,7 +50,9 @@ def result_text(result: Result) -> str:
             return f"flag {result.bits:02X}"
         case Word():
             return f"f32 {result:08X}"
-    return f"i8 {result}"
+        case int():
+            return f"i8 {result}"
+    assert_never(result)
 
 
 def result_of(words: list[str]) -> Result:
@@ -135,27 +138,27 @@ class Error:
 Answer = Ok | Sent | Waiting | Finished | Refused | Error | Held
 
 
-def one_line(name: str, words: list[str], frame: Frame | None) -> Answer:
+def one_line(words: list[str], frame: Frame | None) -> Answer:
     """The answer that a line's words are, after the frame that stands before it."""
     match words:
-        case ["ok"] if name in TAKEN:
+        case ["ok"] if not frame:
             return Ok()
-        case ["sent", "due", time] if frame and name in STEPS:
+        case ["sent", "due", time] if frame:
             return Sent(frame, decimal(time))
-        case ["finished", *result] if name in STEPS:
+        case ["finished", *result]:
             return Finished(result_of(result), frame)
-        case ["waiting", "due", time] if not frame and name in STEPS:
+        case ["waiting", "due", time] if not frame:
             return Waiting(decimal(time))
-        case ["refused", _, *_] if not frame and name in (*TAKEN[1:], *STEPS, "look"):
+        case ["refused", _, *_] if not frame:
             return Refused(Refusal.parse(words[1:]))
-    raise ValueError("it isn't an answer to this event")
+    raise ValueError("it isn't an answer")
 
 
 def read_answer(event: str, next_line: Callable[[], str]) -> Answer | None:
     """The answer to an event's line, from the lines that next_line gives; None where there is nothing to answer."""
     if not event.rstrip("\r\n") or event.startswith("#"):
         return None
-    name = "heard" if event.startswith("(") else event.rstrip("\r\n").split(" ")[0]
+    firsts = answers_of(event.rstrip("\r\n"))
     said = ""
 
     def line() -> str:
@@ -172,14 +175,15 @@ def read_answer(event: str, next_line: Callable[[], str]) -> Answer | None:
     try:
         if line().startswith("error "):
             return Error(said[6:])
-        if name == "look" and said.startswith("motor "):
-            return held_of(said, after, line)
         frame = None
-        if said.startswith("(") and name in STEPS:
+        if said.startswith("(") and "sent" in firsts:
             frame = Frame.parse(said)
             if not SENT.fullmatch(said):
                 raise ValueError("the frame isn't in replay's form")
             line()
-        return one_line(name, said.split(" "), frame)
+        words = said.split(" ")
+        if words[0] not in firsts:
+            raise ValueError("it isn't an answer to this event")
+        return held_of(said, after, line) if words[0] == "motor" else one_line(words, frame)
     except ValueError as wrong:
         raise Unexpected(event, said, str(wrong)) from None

@@ -2,59 +2,87 @@
 
 from __future__ import annotations
 
-import re
+from collections.abc import Sequence
 from dataclasses import dataclass
+from typing import Any
 
-from .commands import Command, number
-from .values import Frame, plain_word, whole
+from .commands import COMMANDS, Command
+from .shapes import checked, printed, read
+from .values import Frame, Word, of_type
+
+
+class Called:
+    """An event of the table EVENTS. Its fields are the arguments of its shape."""
+
+    @property
+    def shape(self) -> str:
+        return EVENTS[NAMES[type(self)]].shape
+
+    @property
+    def arguments(self) -> tuple[object, ...]:
+        return tuple(vars(self).values())
+
+    @property
+    def line(self) -> str:
+        arguments = checked(self.shape, self.arguments)
+        words = printed(self.shape, arguments)
+        if self.shape.startswith("I"):
+            words[0] = str(arguments[0])  # the motor's id is decimal, a host hexadecimal
+        return " ".join([NAMES[type(self)], *words])
+
+    @classmethod
+    def of(cls, words: Sequence[str]) -> Any:
+        """The event that the words after its name are."""
+        kind: Any = cls
+        return kind(*read(EVENTS[NAMES[cls]].shape, words))
 
 
 @dataclass(frozen=True)
-class Fresh:
+class Fresh(Called):
     """Begin again with no motor."""
 
-    line = "fresh"
-
 
 @dataclass(frozen=True)
-class Register:
+class Register(Called):
     id: int
     host: int
     model: str
     wait: int
     time: int
 
-    @property
-    def line(self) -> str:
-        id, host, wait = whole("a motor id", self.id), whole("a host id", self.host), whole("a wait", self.wait)
-        return f"register {id} 0x{host:02X} {plain_word('a model', self.model)} {wait} {whole('a time', self.time)}"
-
 
 @dataclass(frozen=True)
-class Start:
+class Start(Called):
+    """An operation's start. The command's arguments stand behind its name."""
+
     id: int
     time: int
     command: Command
 
+    def __post_init__(self) -> None:
+        of_type(Command, self.command)
+
     @property
-    def line(self) -> str:
-        if not isinstance(self.command, Command):
-            raise ValueError(f"a Command is asked for, not {self.command!r}")
-        return f"start {whole('a motor id', self.id)} {whole('a time', self.time)} {self.command.text}"
+    def shape(self) -> str:
+        return super().shape + COMMANDS[self.command.name]
+
+    @property
+    def arguments(self) -> tuple[object, ...]:
+        return (self.id, self.time, self.command.name, *self.command.arguments)
+
+    @classmethod
+    def of(cls, words: Sequence[str]) -> Start:
+        return cls(*read("IT", words[:2]), Command.parse(words[2:]))
 
 
 @dataclass(frozen=True)
-class Step:
+class Step(Called):
     id: int
     time: int
 
-    @property
-    def line(self) -> str:
-        return f"step {whole('a motor id', self.id)} {whole('a time', self.time)}"
-
 
 @dataclass(frozen=True)
-class AnyFrame:
+class AnyFrame(Called):
     """Any frame at all, in every field that a frame has."""
 
     time: int
@@ -65,14 +93,19 @@ class AnyFrame:
     rx: bool = True
 
     @property
-    def line(self) -> str:
-        if not isinstance(self.data, bytes) or len(self.data) != 8:
-            raise ValueError(f"the data is 8 bytes, not {self.data!r}")
-        if not isinstance(self.extended, bool) or not isinstance(self.rx, bool):
-            raise ValueError("extended and rx are True or False")
-        id, dlc = whole("a frame's id", self.id, 0xFFFF_FFFF), whole("dlc", self.dlc, 255)
-        data = self.data.hex().upper()
-        return f"frame {whole('a time', self.time)} 0x{id:08X} {data} {self.extended:d} {dlc} {self.rx:d}"
+    def arguments(self) -> tuple[object, ...]:
+        return (self.time, Word(self.id), self.data, self.extended, self.dlc, self.rx)
+
+
+@dataclass(frozen=True)
+class Look(Called):
+    id: int
+
+
+@dataclass(frozen=True)
+class Remove(Called):
+    id: int
+    time: int
 
 
 @dataclass(frozen=True)
@@ -81,33 +114,37 @@ class Heard:
 
     frame: Frame
 
+    def __post_init__(self) -> None:
+        of_type(Frame, self.frame)
+
     @property
     def line(self) -> str:
-        if not isinstance(self.frame, Frame):
-            raise ValueError(f"a Frame is asked for, not {self.frame!r}")
         return self.frame.line
 
 
-@dataclass(frozen=True)
-class Look:
-    id: int
-
-    @property
-    def line(self) -> str:
-        return f"look {whole('a motor id', self.id)}"
-
-
-@dataclass(frozen=True)
-class Remove:
-    id: int
-    time: int
-
-    @property
-    def line(self) -> str:
-        return f"remove {whole('a motor id', self.id)} {whole('a time', self.time)}"
-
-
 Event = Fresh | Register | Start | Step | AnyFrame | Heard | Look | Remove
+
+
+@dataclass(frozen=True)
+class Row:
+    """A row of the table of events: the type, the shape, and the words with which an answer may begin."""
+
+    kind: type[Any]
+    shape: str
+    answers: str
+
+
+# The table of events. Behind the shape of a start stands its command's.
+EVENTS: dict[str, Row] = {
+    "fresh": Row(Fresh, "", "ok"),
+    "register": Row(Register, "IIXTT", "ok refused"),
+    "step": Row(Step, "IT", "sent waiting finished refused"),
+    "frame": Row(AnyFrame, "TWDFBF", "ok refused"),
+    "look": Row(Look, "I", "motor refused"),
+    "remove": Row(Remove, "IT", "ok refused"),
+    "start": Row(Start, "ITX", "sent waiting finished refused"),
+}
+NAMES: dict[type[Any], str] = {row.kind: name for name, row in EVENTS.items()}
 
 
 def parse_event(line: str) -> Event | None:
@@ -117,23 +154,14 @@ def parse_event(line: str) -> Event | None:
         return None
     if line.startswith("("):
         return Heard(Frame.parse(line))
-    words = line.split(" ")
-    match words:
-        case ["fresh"]:
-            return Fresh()
-        case ["register", id, host, model, wait, time]:
-            event: Event = Register(number(id), number(host), model, number(wait), number(time))
-        case ["start", id, time, _, *_]:
-            event = Start(number(id), number(time), Command.parse(words[3:]))
-        case ["step", id, time]:
-            event = Step(number(id), number(time))
-        case ["frame", time, id, data, extended, dlc, rx] if re.fullmatch(r"[0-9A-Fa-f]{16}", data):
-            flags = bool(number(extended, 1)), number(dlc, 255), bool(number(rx, 1))
-            event = AnyFrame(number(time), number(id, 0xFFFF_FFFF), bytes.fromhex(data), *flags)
-        case ["look", id]:
-            event = Look(number(id))
-        case ["remove", id, time]:
-            event = Remove(number(id), number(time))
-        case _:
-            raise ValueError(f"{line!r} isn't an event")
+    name, *words = line.split(" ")
+    if name not in EVENTS:
+        raise ValueError(f"{line!r} isn't an event")
+    event: Event = EVENTS[name].kind.of(words)
     return event
+
+
+def answers_of(line: str) -> list[str]:
+    """The words with which an answer to a line may begin, `error` aside. A frame heard is answered as any other."""
+    name = "frame" if line.startswith("(") else line.split(" ")[0]
+    return EVENTS[name].answers.split(" ") if name in EVENTS else []

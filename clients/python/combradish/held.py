@@ -5,7 +5,7 @@ from __future__ import annotations
 from collections.abc import Callable
 from dataclasses import dataclass
 
-from .commands import SHAPES
+from .commands import COMMANDS
 from .values import Value, Word, decimal, digits, plain_word
 
 STATUS_FLAGS = ("undervoltage", "overcurrent", "overtemperature", "magnetic_encoder_fault", "stall", "uncalibrated")
@@ -103,7 +103,7 @@ class Running:
     @staticmethod
     def parse(words: list[str]) -> Running:
         command, due, time = words
-        if command not in SHAPES or due != "due":
+        if command not in COMMANDS or due != "due":
             raise ValueError("it isn't a running operation")
         return Running(command, decimal(time))
 

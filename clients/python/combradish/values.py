@@ -1,13 +1,22 @@
-"""Numbers, floats' words, modes, parameter values, frames and refusals, as docs/REPLAY.md writes them."""
+"""Numbers, floats' words, modes, parameter values and frames, as docs/REPLAY.md writes them."""
 
 from __future__ import annotations
 
 import re
 import struct
 from dataclasses import dataclass
-from enum import Enum, IntEnum
+from enum import Enum
+from typing import TypeVar, assert_never
 
 MOST = 2**64 - 1
+T = TypeVar("T")
+
+
+def of_type(kind: type[T], given: object) -> T:
+    """What is given, if it is of a type."""
+    if not isinstance(given, kind):
+        raise ValueError(f"a {kind.__name__} is asked for, not {given!r}")
+    return given
 
 
 def whole(name: str, number: object, most: int = MOST) -> int:
@@ -48,10 +57,10 @@ def signed(text: str) -> int:
 
 
 class Word(int):
-    """The 32 bits of a float."""
+    """32 bits: those of a float, or of a frame's id."""
 
     def __new__(cls, bits: int) -> Word:
-        return super().__new__(cls, whole("a float's word", bits, 0xFFFF_FFFF))
+        return super().__new__(cls, whole("a word", bits, 0xFFFF_FFFF))
 
     def __repr__(self) -> str:
         return f"Word(0x{int(self):08X})"
@@ -102,7 +111,7 @@ class Kind(Enum):
     @property
     def width(self) -> int:
         """Hexadecimal digits of the value's bits."""
-        return {"i8": 2, "u8": 2, "u16": 4}.get(self.value, 8)
+        return {"i8": 2, "u8": 2, "u16": 4, "u32": 8, "f32": 8}[self.value]
 
 
 @dataclass(frozen=True)
@@ -113,8 +122,7 @@ class Value:
     bits: int
 
     def __post_init__(self) -> None:
-        if not isinstance(self.kind, Kind):
-            raise ValueError(f"a Kind is asked for, not {self.kind!r}")
+        of_type(Kind, self.kind)
         whole(f"the bits of a {self.kind.value}", self.bits, 16**self.kind.width - 1)
 
     @staticmethod
@@ -142,14 +150,24 @@ class Value:
     @property
     def number(self) -> int | float:
         """What the bits stand for."""
-        if self.kind is Kind.F32:
-            return value(self.bits)
-        return self.bits - 256 if self.kind is Kind.I8 and self.bits > 127 else self.bits
+        match self.kind:
+            case Kind.I8:
+                return self.bits - 256 if self.bits > 127 else self.bits
+            case Kind.U8 | Kind.U16 | Kind.U32:
+                return self.bits
+            case Kind.F32:
+                return value(self.bits)
+        assert_never(self.kind)
 
     @property
     def text(self) -> str:
         """KIND BITS, as an answer has them."""
         return f"{self.kind.name} {self.bits:0{self.kind.width}X}"
+
+    @property
+    def argument(self) -> str:
+        """KIND VALUE, as an event has them."""
+        return f"{self.kind.value} 0x{self.bits:0{self.kind.width}X}"
 
     @staticmethod
     def parse(kind: str, bits: str) -> Value:
@@ -174,8 +192,7 @@ class Frame:
 
     def __post_init__(self) -> None:
         whole("a frame's time", self.micros, (MOST + 1) * 1000 - 1)
-        if not isinstance(self.extended, bool):
-            raise ValueError(f"extended is True or False, not {self.extended!r}")
+        of_type(bool, self.extended)
         whole("a frame's id", self.id, 0x1FFF_FFFF if self.extended else 0xFFF)
         if not isinstance(self.data, bytes) or len(self.data) > 8:
             raise ValueError(f"a frame's data is at most 8 bytes, not {self.data!r}")
@@ -205,74 +222,3 @@ class Frame:
             raise ValueError(f"{line!r} isn't a data frame of a candump log")
         seconds, micros, interface, id, data = found.group(1, 2, 3, 4, 5)
         return Frame(int(seconds) * 1_000_000 + int(micros), int(id, 16), bytes.fromhex(data), len(id) == 8, interface)
-
-
-class Reason(IntEnum):
-    """Why a call is refused, by document 01's number."""
-
-    MOTOR_ID_NOT_1_TO_255 = 1
-    HOST_ID_ABOVE_255 = 2
-    MODEL_UNKNOWN = 3
-    EIGHT_MOTORS_REGISTERED = 4
-    ID_REGISTERED = 5
-    ID_NOT_REGISTERED = 6
-    TIME_OUT_OF_ORDER = 7
-    OPERATION_RUNNING = 8
-    TIMEOUT_OR_WAIT_ABOVE_60000 = 9
-    WRITTEN_ID_UNLISTED = 10
-    KIND_DIFFERS = 11
-    PROTOCOL_NOT_0_TO_2 = 12
-    FRAME_NOT_ACCEPTED = 13
-    READ_STATUS_NOT_ZERO = 14
-    NO_ROOM_FOR_READING = 15
-    LAST_WINDOW_GONE = 16
-    RUN_MODE_UNKNOWN = 17
-    THIRD_MODE_ATTEMPT_FAILED = 18
-    NEW_DEVICE_ID_0 = 19
-    READING_OF_ANOTHER_KIND = 20
-    NOTHING_RUNNING = 21
-    NOT_A_PING_REPLY = 22
-    NOT_A_VERSION_REPLY = 23
-
-    @property
-    def text(self) -> str:
-        """The reason in words."""
-        return self.name.lower().replace("_", " ")
-
-
-ENDING = (Reason.LAST_WINDOW_GONE, Reason.RUN_MODE_UNKNOWN, Reason.THIRD_MODE_ATTEMPT_FAILED, Reason.READING_OF_ANOTHER_KIND)
-
-
-@dataclass(frozen=True)
-class Refusal:
-    """A refusal: its reason, of 14 the parameter and the read status, of 18 the last value read or None."""
-
-    number: Reason
-    parameter: int | None = None
-    status: int | None = None
-    last: int | None = None
-
-    @property
-    def name(self) -> str:
-        return self.number.name
-
-    @property
-    def text(self) -> str:
-        """The words after `refused`."""
-        if self.number == 14:
-            return f"14 {self.parameter:04X} {self.status:02X}"
-        if self.number == 18:
-            return f"18 {'none' if self.last is None else self.last}"
-        return str(int(self.number))
-
-    @staticmethod
-    def parse(words: list[str]) -> Refusal:
-        """The refusal that the words after `refused` are."""
-        number = Reason(decimal(words[0], 23))
-        if len(words) != {14: 3, 18: 2}.get(number, 1):
-            raise ValueError("the refusal has too few words or too many")
-        if number == 14:
-            return Refusal(number, parameter=digits(words[1], 4), status=digits(words[2], 2))
-        if number == 18 and words[1] != "none":
-            return Refusal(number, last=signed(words[1]))
-        return Refusal(number)

@@ -16,10 +16,10 @@ from pathlib import Path
 sys.path.insert(0, str(Path(__file__).resolve().parents[1]))
 
 from combradish import (  # noqa: E402
-    Command, Died, Error, Finished, Frame, Held, Kind, Mode, Ok, Reason, Refusal, Refused, Sent, Station, Unexpected,
+    COMMANDS, Command, Died, Error, Finished, Frame, Held, Kind, Mode, Ok, Reason, Refusal, Refused, Sent, Station, Unexpected,
     Value, Waiting, Word, parse_event, program_of, read_answer, value, word,
 )  # fmt: skip
-from combradish.commands import SHAPES  # noqa: E402
+from combradish.shapes import parts  # noqa: E402
 
 ROOT = Path(__file__).resolve().parents[3]
 REPLAY = program_of(ROOT)
@@ -250,14 +250,13 @@ class Misuse(unittest.TestCase):
 
     def test_every_command_is_an_event(self) -> None:
         """Each constructor's line is read by replay, with its arguments at both ends of their ranges."""
-        most = {"T": 2**64 - 1, "H": 2**64 - 1, "M": Mode.CSP, "P": 2**64 - 1, "N": 255, "F": True, "W": Word(2**32 - 1),
-                "I": 0xFFFF, "V": Value.u16(0xFFFF)}  # fmt: skip
-        least = {**dict.fromkeys("THPNI", 0), "M": Mode.MIT, "F": False, "W": -0.0, "V": Value.i8(-1)}
-        self.assertEqual(len(SHAPES), 25)
+        most = {**dict.fromkeys("TIP", 2**64 - 1), "C": Mode.CSP, "B": 255, "F": True, "W": Word(2**32 - 1), "H": 0xFFFF,
+                "KW": Value.u16(0xFFFF)}  # fmt: skip
+        least = {**dict.fromkeys("TIPBH", 0), "C": Mode.MIT, "F": False, "W": -0.0, "KW": Value.i8(-1)}
         with Station(REPLAY) as station:
-            for name, shape in SHAPES.items():
+            for name, shape in COMMANDS.items():
                 for table in (most, least):
-                    command = getattr(Command, name)(*(table[letter] for letter in shape))
+                    command = getattr(Command, name)(*(table[part] for part in parts(shape)))
                     self.assertEqual(station.start(1, 0, command), Refused(Refusal(Reason.ID_NOT_REGISTERED)))
                     self.assertEqual(Command.parse(command.text.split(" ")), command)
 

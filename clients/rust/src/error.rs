@@ -51,7 +51,7 @@ impl std::error::Error for Error {
     fn source(&self) -> Option<&(dyn std::error::Error + 'static)> {
         match self {
             Error::Io { error, .. } => Some(error),
-            _ => None,
+            Error::Died { .. } | Error::Unexpected { .. } | Error::Over { .. } => None,
         }
     }
 }

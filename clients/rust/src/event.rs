@@ -1,8 +1,8 @@
 //! Events: what a session's lines say.
 use crate::command::Command;
-use crate::heard::{Data, Heard};
+use crate::heard::Heard;
 use crate::name::Model;
-use std::fmt;
+use crate::shape::{self, table};
 
 /// Any frame at all, as the event `frame` hands it in.
 #[derive(Clone, Copy, Debug, PartialEq, Eq)]
@@ -14,38 +14,18 @@ pub struct Frame {
     pub rx: bool,
 }
 
-/// An event. It prints as its line, without the line's end. Times are milliseconds.
-#[derive(Clone, Debug, PartialEq, Eq)]
-pub enum Event {
-    Fresh,
-    Register {
-        id: u16,
-        host: u16,
-        model: Model,
-        wait: u64,
-        time: u64,
-    },
-    Start {
-        id: u16,
-        time: u64,
-        command: Command,
-    },
-    Step {
-        id: u16,
-        time: u64,
-    },
-    Heard(Heard),
-    Frame {
-        time: u64,
-        frame: Frame,
-    },
-    Look {
-        id: u16,
-    },
-    Remove {
-        id: u16,
-        time: u64,
-    },
+table! {
+    /// An event. It prints as its line, without the line's end. Times are milliseconds. A start's line goes
+    /// on as its command says.
+    #[derive(Clone, Debug, PartialEq, Eq)]
+    Event from 0 besides Heard(Heard):
+    "fresh" Fresh;
+    "register" Register { id: u16 'I', host: u16 'I', model: Model 'X', wait: u64 'T', time: u64 'T' };
+    "step" Step { id: u16 'I', time: u64 'T' };
+    "frame" Frame { time: u64 'T', frame: Frame 'W' 'D' 'F' 'B' 'F' };
+    "look" Look { id: u16 'I' };
+    "remove" Remove { id: u16 'I', time: u64 'T' };
+    "start" Start { id: u16 'I', time: u64 'T', command: Command 'X' };
 }
 
 /// Which lines answer an event.
@@ -81,7 +61,20 @@ impl Event {
         match self {
             Event::Start { .. } | Event::Step { .. } => Form::Reply,
             Event::Look { .. } => Form::Look,
-            _ => Form::Taken,
+            Event::Fresh
+            | Event::Register { .. }
+            | Event::Frame { .. }
+            | Event::Heard(_)
+            | Event::Remove { .. } => Form::Taken,
+        }
+    }
+
+    /// The event that a line is. None where it is none, or one that the types leave out: a name of more
+    /// than 255 bytes, a standard id above 7FF.
+    pub fn parse(line: &str) -> Option<Event> {
+        match line.starts_with('(') {
+            true => Heard::parse(line).map(Event::Heard),
+            false => shape::whole(line, Event::read),
         }
     }
 }
@@ -99,35 +92,6 @@ impl Form {
                 let word = last.split(' ').next().unwrap_or_default();
                 lines.len() >= LONGEST || !INSIDE.contains(&word)
             }
-        }
-    }
-}
-
-impl fmt::Display for Event {
-    fn fmt(&self, f: &mut fmt::Formatter) -> fmt::Result {
-        match self {
-            Event::Fresh => write!(f, "fresh"),
-            Event::Register {
-                id,
-                host,
-                model,
-                wait,
-                time,
-            } => write!(f, "register {id} 0x{host:02X} {model} {wait} {time}"),
-            Event::Start { id, time, command } => write!(f, "start {id} {time} {command}"),
-            Event::Step { id, time } => write!(f, "step {id} {time}"),
-            Event::Heard(heard) => write!(f, "{heard}"),
-            Event::Frame { time, frame } => {
-                let data = Data::from(frame.data);
-                let (extended, rx) = (u8::from(frame.extended), u8::from(frame.rx));
-                write!(
-                    f,
-                    "frame {time} 0x{:08X} {data} {extended} {} {rx}",
-                    frame.id, frame.dlc
-                )
-            }
-            Event::Look { id } => write!(f, "look {id}"),
-            Event::Remove { id, time } => write!(f, "remove {id} {time}"),
         }
     }
 }

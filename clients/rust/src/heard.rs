@@ -1,5 +1,6 @@
 //! A frame heard, as a line of a candump log.
 use crate::name::Interface;
+use crate::shape::{decimal, hex};
 use std::fmt;
 
 /// A log's time in whole microseconds, whose milliseconds are below 2^64.
@@ -14,6 +15,14 @@ impl Stamp {
     pub fn new(seconds: u64, micros: u32) -> Option<Stamp> {
         let millis = u128::from(seconds) * 1000 + u128::from(micros / 1000);
         (micros < 1_000_000 && millis <= u128::from(u64::MAX)).then_some(Stamp { seconds, micros })
+    }
+
+    /// The stamp that a text is: SECONDS.MICROS in parentheses.
+    fn parse(text: &str) -> Option<Stamp> {
+        let inner = text.strip_prefix('(')?.strip_suffix(')')?;
+        let (seconds, micros) = inner.split_once('.')?;
+        let micros = decimal(micros).filter(|_| micros.len() == 6)?;
+        Stamp::new(decimal(seconds)?, u32::try_from(micros).ok()?)
     }
 
     /// At this millisecond.
@@ -68,6 +77,20 @@ impl HeardId {
         let (id, extended) = (u32::from(id), false);
         (id <= 0x7FF).then_some(HeardId { id, extended })
     }
+
+    /// The id that digits are: eight, or three of a standard one.
+    fn parse(digits: &str) -> Option<HeardId> {
+        let id = hex(digits)?;
+        match digits.len() {
+            8 => HeardId::extended(u32::try_from(id).ok()?),
+            3 => HeardId::standard(u16::try_from(id).ok()?),
+            _ => None,
+        }
+    }
+
+    pub fn number(self) -> u32 {
+        self.id
+    }
 }
 
 impl fmt::Display for HeardId {
@@ -93,6 +116,13 @@ impl Data {
         bytes.get_mut(..data.len())?.copy_from_slice(data);
         let len = data.len();
         Some(Data { bytes, len })
+    }
+
+    /// The bytes that digits are, two each.
+    pub(crate) fn parse(digits: &str) -> Option<Data> {
+        let byte = |k: usize| u8::try_from(hex(digits.get(k..k + 2)?)?).ok();
+        let bytes: Option<Vec<u8>> = (0..digits.len()).step_by(2).map(byte).collect();
+        Data::new(&bytes?)
     }
 
     pub fn bytes(&self) -> &[u8] {
@@ -139,6 +169,27 @@ impl Heard {
             data,
             direction: None,
         }
+    }
+
+    /// The frame that a log's line is.
+    pub(crate) fn parse(line: &str) -> Option<Heard> {
+        let words: Vec<&str> = line.split(' ').collect();
+        let [stamp, interface, frame, ref mark @ ..] = *words.as_slice() else {
+            return None;
+        };
+        let (id, data) = frame.split_once('#')?;
+        Some(Heard {
+            stamp: Stamp::parse(stamp)?,
+            interface: Interface::new(interface).ok()?,
+            id: HeardId::parse(id)?,
+            data: Data::parse(data)?,
+            direction: match mark {
+                [] => None,
+                ["R"] => Some(Direction::Received),
+                ["T"] => Some(Direction::Transmitted),
+                _ => return None,
+            },
+        })
     }
 }
 

@@ -33,6 +33,7 @@ mod name;
 mod parse;
 mod recording;
 mod refusal;
+mod shape;
 mod station;
 mod value;
 

@@ -4,6 +4,7 @@ use crate::answer::{Answer, Looked, Outcome, Ping, Reply, Said, SentFrame, Taken
 use crate::command::COMMANDS;
 use crate::event::Form;
 use crate::flags;
+use crate::heard::Heard;
 use crate::held::{Fault, Feedback, Gains, Held, Registered, Running};
 use crate::name::Model;
 use crate::refusal::Refusal;
@@ -27,7 +28,7 @@ impl Answer {
 pub(crate) fn taken(lines: &[String]) -> Parsed<Taken> {
     let read = |line: &str| match line {
         "ok" => Some(Taken::Ok),
-        refused => refusal(refused).map(Taken::Refused),
+        refused => Refusal::parse(refused).map(Taken::Refused),
     };
     exact(line(lines, 0, read)?, lines)
 }
@@ -42,13 +43,15 @@ pub(crate) fn reply(lines: &[String]) -> Parsed<Reply> {
         | (None, Said::Waiting { .. } | Said::Finished(_) | Said::Refused(_)) => {
             exact(Reply { frame, said }, lines)
         }
-        _ => Err(said.to_string()),
+        (Some(_), Said::Waiting { .. } | Said::Refused(_)) | (None, Said::Sent { .. }) => {
+            Err(said.to_string())
+        }
     }
 }
 
 pub(crate) fn looked(lines: &[String]) -> Parsed<Looked> {
     let read = match lines.len() {
-        1 => Looked::Refused(line(lines, 0, refusal)?),
+        1 => Looked::Refused(line(lines, 0, Refusal::parse)?),
         _ => Looked::Held(Box::new(held(lines)?)),
     };
     exact(read, lines)
@@ -99,36 +102,12 @@ fn words(line: &str) -> Vec<&str> {
     line.split(' ').collect()
 }
 
-fn refusal(line: &str) -> Option<Refusal> {
-    match words(line).as_slice() {
-        ["refused", "14", id, status] => Some(Refusal::ReadFailed {
-            id: hex_id(id)?,
-            status: hex_byte(status)?,
-        }),
-        ["refused", "18", "none"] => Some(Refusal::ModeNotReached { last: None }),
-        ["refused", "18", last] => Some(Refusal::ModeNotReached {
-            last: Some(last.parse().ok()?),
-        }),
-        ["refused", number] => Refusal::plain(number.parse().ok()?),
-        _ => None,
-    }
-}
-
 fn sent_frame(line: &str) -> Option<SentFrame> {
-    let [stamp, "can0", frame] = *words(line).as_slice() else {
-        return None;
-    };
-    let (seconds, micros) = stamp
-        .strip_prefix('(')?
-        .strip_suffix(')')?
-        .split_once('.')?;
-    let seconds: u64 = seconds.parse().ok()?;
-    let micros: u64 = micros.parse().ok()?;
-    let (id, data) = frame.split_once('#')?;
+    let sent = Heard::parse(line)?;
     Some(SentFrame {
-        time: seconds.checked_mul(1000)?.checked_add(micros / 1000)?,
-        id: hex(id)?,
-        data: payload(data)?,
+        time: sent.stamp.millis(),
+        id: sent.id.number(),
+        data: sent.data.bytes().try_into().ok()?,
     })
 }
 
@@ -137,7 +116,7 @@ fn said(line: &str) -> Option<Said> {
         ["sent", "due", due] => due.parse().ok().map(|due| Said::Sent { due }),
         ["waiting", "due", due] => due.parse().ok().map(|due| Said::Waiting { due }),
         ["finished", result @ ..] => outcome(result).map(Said::Finished),
-        _ => refusal(line).map(Said::Refused),
+        _ => Refusal::parse(line).map(Said::Refused),
     }
 }
 

@@ -101,7 +101,7 @@ impl Station {
             Looked::Held(held) if u16::from(held.registered.id) != id => {
                 Err(self.unexpected(event.to_string(), looked.to_string()))
             }
-            _ => Ok(looked),
+            Looked::Held(_) | Looked::Refused(_) => Ok(looked),
         }
     }
 
@@ -117,7 +117,11 @@ impl Station {
                 self.reply(event, time).map(Answer::Reply)
             }
             Event::Look { id } => self.look(id).map(Answer::Looked),
-            _ => self.ask(event, parse::taken).map(Answer::Taken),
+            Event::Fresh
+            | Event::Register { .. }
+            | Event::Frame { .. }
+            | Event::Heard(_)
+            | Event::Remove { .. } => self.ask(event, parse::taken).map(Answer::Taken),
         }
     }
 

@@ -51,6 +51,12 @@ impl Value {
         format!("{} 0x{bits:0digits$X}", kind.to_lowercase())
     }
 
+    /// As `of`, of a kind's name in an event.
+    pub(crate) fn given(kind: &str, bits: u32) -> Option<Value> {
+        let found = Value::of(&kind.to_uppercase(), bits)?;
+        (found.parts().0.to_lowercase() == kind).then_some(found)
+    }
+
     /// The value of a kind's name and its bits; None where there is no such kind or they don't fit.
     pub(crate) fn of(kind: &str, bits: u32) -> Option<Value> {
         Some(match kind {

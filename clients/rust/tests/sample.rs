@@ -3,11 +3,11 @@
 mod common;
 
 use combradish_client::{Answer, Event, Recording, Station};
-use common::{event_lines, events, program, sample, scratch};
+use common::{event_lines, program, sample, scratch};
 use std::fs::{self, File};
 
 fn typed(line: &str) -> Event {
-    events::event(line).unwrap_or_else(|| panic!("{line:?} is no typed event"))
+    Event::parse(line).unwrap_or_else(|| panic!("{line:?} is no typed event"))
 }
 
 /// The answers of the sample, event by event, as lines.

@@ -26,7 +26,7 @@ impl Script {
         match (self, id) {
             (Script::Jam, 2 | 6) => Stage::Held,
             (Script::Silent, 4) => Stage::GivenUp,
-            _ => Stage::Swing,
+            (Script::Jam | Script::Silent | Script::Calm, _) => Stage::Swing,
         }
     }
 }

@@ -1,7 +1,8 @@
 //! What the tests share: the program's path, the recorded sample, a folder for files.
 use std::path::{Path, PathBuf};
 
-pub mod events;
+pub mod replay;
+pub mod sources;
 
 /// The file that COMBRADISH_REPLAY names, else target/bin/replay of the repository.
 pub fn program() -> PathBuf {
