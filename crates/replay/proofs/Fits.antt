@@ -5,20 +5,27 @@ use mathlib.Core.List.{List}
 use native.Mathlib.Omega.{arith}
 use lib.Dec.{eqb}
 use lib.ListN.{length}
-use Rattle.codec.specs.Models.{modelNamed}
+use Rattle.codec.specs.declared.bus.CanFrame.{CanFrame}
 use Rattle.session.specs.declared.event.Event.{Event}
 use Rattle.session.specs.declared.event.Event.the-variants as event
+use Rattle.session.specs.declared.event.Other.{Other}
+use Rattle.session.specs.declared.event.Other.the-variants as other
 use Rattle.session.specs.declared.event.Reason.{Reason}
 use Rattle.session.specs.declared.event.Reason.the-variants as reason
-use Rattle.station.specs.declared.station.Moved.{Moved}
+use Rattle.station.specs.declared.call.Answer.{Answer}
+use Rattle.station.specs.declared.call.Answer.the-variants as answer
+use Rattle.station.specs.declared.call.Call.{Call}
+use Rattle.station.specs.declared.call.Call.the-variants as call
+use Rattle.station.specs.declared.call.Replied.{Replied}
 use Rattle.station.specs.declared.station.Station.{Station}
-use Rattle.station.specs.Stations.{registerIn, startIn, stepIn, frameIn, lookIn, removeIn}
+use Rattle.station.specs.Calls.{timeOf}
+use Rattle.station.specs.Stations.{lookIn, callIn}
 use Rattle.answers.specs.Said.{okText}
 use Rattle.answers.proofs.Lengths.{told-fits, said-fits, looked-fits}
 use Rattle.text.specs.Ascii.{ascii}
 use Rattle.text.proofs.TextLengths.{Short, words, none, wider, _&_, either, decimal-short}
 use Rattle.replay.specs.Reasons.{wantedText, reasonText, errorText}
-use Rattle.replay.specs.Events.{frameOf, movedText, textAfter}
+use Rattle.replay.specs.Events.{answerText, repliedText, asked, calledText, callText, otherText, textAfter}
 
 -- these bytes, which are at most 100
 these : (s : List ℕ) → length s ≤ 100 → Short s 100
@@ -61,20 +68,34 @@ error-fits : (r : Reason) → Short (errorText r) 107
 unfolding errorText
 error-fits r = words (ascii "error ") & reason-short r & words (ascii "\n")
 
-moved-fits : (m : Moved) (time : ℕ) → Short (movedText m time) 112
-moved-fits m time = said-fits (m .said) (m .frame) (m .result) time
+replied-by : (a : Answer) (r : Replied) (time : ℕ) → Short (answerText a r time) 112
+replied-by (answer.Told k) r time = wider (told-fits k) (omega arith)
+replied-by (answer.Moved s) r time = said-fits s (r .frame) (r .result) time
+replied-by (answer.Looked k) r time = wider (told-fits k) (omega arith)
 
-answer-fits : (st : Station) (e : Event) (name : List ℕ) → Short (textAfter st e name) 4096
+called-fits : (st : Station) (c : Call) (f : CanFrame) → Short (calledText st c f) 4096
+unfolding repliedText
+called-fits st c f = wider (replied-by (callIn st (asked c f) .replied .answer) (callIn st (asked c f) .replied) (timeOf c)) (omega arith)
+
+call-fits : (st : Station) (c : Call) (f : CanFrame) → Short (callText st c f) 4096
+unfolding callText
+call-fits st (call.Register id host model wait time) f = called-fits st (call.Register id host model wait time) f
+call-fits st (call.Start id c time) f = called-fits st (call.Start id c time) f
+call-fits st (call.Step id time) f = called-fits st (call.Step id time) f
+call-fits st (call.Frame time) f = called-fits st (call.Frame time) f
+call-fits st (call.Look id) f = wider (looked-fits (lookIn st id)) (omega arith)
+call-fits st (call.Remove id time) f = called-fits st (call.Remove id time) f
+
+other-fits : (o : Other) → Short (otherText o) 4096
+unfolding otherText
+other-fits other.Nothing = none
+other-fits (other.Error reason) = wider (error-fits reason) (omega arith)
+other-fits other.Fresh = wider (words okText) (omega arith)
+
+answer-fits : (st : Station) (e : Event) (f : CanFrame) → Short (textAfter st e f) 4096
 unfolding textAfter
-answer-fits st event.Nothing name = none
-answer-fits st (event.Error reason) name = wider (error-fits reason) (omega arith)
-answer-fits st event.Fresh name = wider (words okText) (omega arith)
-answer-fits st (event.Register id host wait time) name = wider (told-fits (registerIn st id host (modelNamed name) wait time .said)) (omega arith)
-answer-fits st (event.Start id time command) name = wider (moved-fits (startIn st id command time) time) (omega arith)
-answer-fits st (event.Step id time) name = wider (moved-fits (stepIn st id time) time) (omega arith)
-answer-fits st (event.Frame time id v extended dlc rx) name = wider (told-fits (frameIn st (frameOf id v extended dlc rx) time .said)) (omega arith)
-answer-fits st (event.Look id) name = wider (looked-fits (lookIn st id)) (omega arith)
-answer-fits st (event.Remove id time) name = wider (told-fits (removeIn st id time .said)) (omega arith)
+answer-fits st (event.Call c) f = call-fits st c f
+answer-fits st (event.Other o) f = other-fits o
 
-pub fits : (st : Station) (e : Event) (name : List ℕ) → length (textAfter st e name) ≤ 4096
-fits st e name = answer-fits st e name .fits
+pub fits : (st : Station) (e : Event) (f : CanFrame) → length (textAfter st e f) ≤ 4096
+fits st e f = answer-fits st e f .fits

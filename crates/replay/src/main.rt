@@ -1,7 +1,6 @@
 // Replay: reads a recorded session, hands each event to a station, and writes what the station answers.
 mod cursor;
 mod errors;
-mod frames;
 mod lines;
 mod others;
 mod turns;

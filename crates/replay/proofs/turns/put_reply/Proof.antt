@@ -6,6 +6,9 @@ use Rattle.replay.proofs.turns.put_reply.Tie as tie
 room-for-requires : tie.Need-room-for-requires
 room-for-requires c κs = search needs
 
+time-of-requires : tie.Need-time-of-requires
+time-of-requires c κs = search needs
+
 put-replied-requires : tie.Need-put-replied-requires
 put-replied-requires c κs = search needs
 
@@ -16,9 +19,12 @@ same-length : tie.Need-same-length
 same-length c = search needs
 
 returns : tie.Need-returns
-returns c = (rw (c .next-line .ensures .0, ← c .before .before .before .before .before .room-for .ensures) (c .before .before .before .put-replied .ensures), c .next-line .ensures .1, c .next-line .ensures .2)
+returns c =
+    let p = c .before .before .before in
+    let t = p .before .before in
+    (rw (c .next-line .ensures .0, ← t .before .room-for .ensures, ← t .time-of .ensures) (p .put-replied .ensures), c .next-line .ensures .1, c .next-line .ensures .2)
 
 pub put-reply-spec : {M : Type 1} → statement M
 put-reply-spec =
     tie.close
-    (tie.spec room-for-requires put-replied-requires next-line-requires same-length returns)
+    (tie.spec room-for-requires time-of-requires put-replied-requires next-line-requires same-length returns)
