@@ -2,9 +2,9 @@
 use Prim.Native.Nat.{ℕ, _+_, _-_, _/_, _%_, _^_}
 use mathlib.Core.Bool.{Bool, cond}
 use mathlib.Core.List.{List}
-use lib.Dec.{eqb, ltb, leb}
+use lib.Dec.{eqb, ltb}
 use lib.ListN.{length, getD}
-use Rattle.text.specs.Words.{wordsIn, wordAt}
+use Rattle.text.specs.Words.{wordAt}
 use Rattle.session.specs.declared.event.Event.{Event}
 use Rattle.session.specs.declared.event.Event.the-variants as event
 use Rattle.session.specs.declared.event.Reason.the-variants as reason
@@ -38,7 +38,7 @@ unfoldable pub called : List ℕ → List ℕ → ℕ → Event
 called line shape k = orEvent (eqb k 6) (started line) (calledBy line shape k)
 
 abbrev pub eventBy : List ℕ → ℕ → Event
-eventBy line at = orEvent (leb (wordsIn events) at) (event.Error reason.NoSuchEvent) (called line (wordAt events (at + 1)) (at / 2))
+eventBy line at = orEvent (eqb (at % 2) 1) (event.Error reason.NoSuchEvent) (called line (wordAt events (at + 1)) (at / 2))
 
 -- Blank lines and comments are nothing; a line has at most 4,096 bytes; one that begins with ( is a line of a log; else the first
 -- word says which event it is.

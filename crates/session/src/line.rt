@@ -50,9 +50,8 @@ pub fn event_of(line: &[u8]) -> Event
     if line[0] == b'(' {
         return heard(line);
     }
-    let n = text::word_count(&EVENTS);
     let at = place(&EVENTS, text::word(line, 0));
-    if n <= at {
+    if at % 2 == 1 {
         return Event::Error(Reason::NoSuchEvent);
     }
     called(line, text::word(&EVENTS, at + 1), at / 2)
