@@ -16,7 +16,6 @@ use Rattle.codec.specs.declared.error.Checked.the-variants as checked
 use Rattle.codec.specs.declared.error.LastMode.{LastMode}
 use Rattle.codec.specs.declared.error.LastMode.the-variants as last
 use Rattle.codec.specs.declared.error.Refusal.{Refusal}
-use Rattle.codec.specs.declared.error.Refusal.the-variants as refusal
 use Rattle.codec.specs.declared.faults.FaultFlags.{FaultFlags}
 use Rattle.codec.specs.declared.faults.WarningFlags.{WarningFlags}
 use Rattle.codec.specs.declared.model.Model.{Model}
@@ -24,7 +23,7 @@ use Rattle.codec.specs.declared.model.Model.the-variants as model
 use Rattle.codec.specs.declared.protocol.ParameterValue.{ParameterValue}
 use Rattle.codec.specs.declared.protocol.ParameterValue.the-variants as value
 use Rattle.codec.specs.Models.{nameOf}
-use Rattle.codec.specs.Refusals.{numberOf}
+use Rattle.codec.specs.Refusals.{Carried, nothing, statusOf, lastRead, rowOf, numberOf}
 use Rattle.motor.specs.declared.engine.command.Command.{Command}
 use Rattle.motor.specs.declared.engine.command.Outcome.{Outcome}
 use Rattle.motor.specs.declared.engine.command.Outcome.the-variants as outcome
@@ -51,7 +50,7 @@ use Rattle.text.specs.Words.{wordAt}
 use Rattle.text.proofs.TextLengths.{Short, words, none, wider, _&_, either, digits-short, decimal-short, widthsOf, fields-short, word-short, wordsUpto, words-few}
 use Rattle.answers.specs.Values.{namedText, lineText, endOfLine, space, valueText, signedText, payloadNumber}
 use Rattle.answers.specs.Names.{modePlace, commandPlace}
-use Rattle.answers.specs.Said.{okText, lastText, carried, refusedText, toldText, stampText, frameText, pingText, outcomeText, finishedText, sentText, lastLine, saidText}
+use Rattle.answers.specs.Said.{okText, lastText, carriedText, refusedText, toldText, stampText, frameText, pingText, outcomeText, finishedText, sentText, lastLine, saidText}
 use Rattle.answers.specs.Looks.{motorText, stateText, feedbackText, reportText, faultText, heldPingText, gainsText, runningText, heldText, readingText, readingsUpto, readingsText, seenText, lookedBy, lookedText, least}
 use Rattle.answers.specs.Flags.{flagText, flagsUpto, flagsText, stateFlags, faultFlags, warningFlags}
 
@@ -110,46 +109,26 @@ unfolding lastText
 last-short last.Unread = wider (words (ascii " none")) (omega arith)
 last-short (last.Read v) = words space & signed-short v
 
-carried-short : (r : Refusal) → Short (carried r) 22
-unfolding carried
-carried-short (refusal.ReadFailed id status) = wider (fields-short _ (ascii "42")) (omega arith)
-carried-short (refusal.ModeNotReached l) = last-short l
-carried-short refusal.MotorIdOutOfRange = none
-carried-short refusal.HostIdOutOfRange = none
-carried-short refusal.UnknownModel = none
-carried-short refusal.StationFull = none
-carried-short refusal.IdRegistered = none
-carried-short refusal.IdNotRegistered = none
-carried-short refusal.TimeOutOfRange = none
-carried-short refusal.OperationRunning = none
-carried-short refusal.TimeoutTooLong = none
-carried-short refusal.UnlistedParameter = none
-carried-short refusal.KindDiffers = none
-carried-short refusal.UnknownProtocol = none
-carried-short refusal.FrameNotAccepted = none
-carried-short refusal.ReadingsFull = none
-carried-short refusal.WindowsGone = none
-carried-short refusal.UnsupportedRunMode = none
-carried-short refusal.NewDeviceIdZero = none
-carried-short refusal.ReadingOfAnotherKind = none
-carried-short refusal.NothingRunning = none
-carried-short refusal.NotPingReply = none
-carried-short refusal.NotVersionReply = none
+carried-short : (c : Carried) → Short (carriedText c) 22
+unfolding carriedText
+carried-short nothing = none
+carried-short (statusOf id status) = wider (fields-short _ (ascii "42")) (omega arith)
+carried-short (lastRead l) = last-short l
 
 refused-short : (r : Refusal) → Short (refusedText r) 51
 unfolding refusedText
-refused-short r = named-short (ascii "refused") (numberOf r) (ascii "D") & carried-short r & words endOfLine
+refused-short r = named-short (ascii "refused") (numberOf r) (ascii "D") & carried-short (rowOf r .1) & words endOfLine
 
 pub told-fits : (c : Checked) → Short (toldText c) 51
 unfolding toldText
 told-fits checked.Passed = wider (words okText) (omega arith)
 told-fits (checked.Refused r) = refused-short r
 
-frame-short : (f : CanFrame) (time : ℕ) → Short (frameText f time) 61
+pub frame-short : (f : CanFrame) (time : ℕ) → Short (frameText f time) 61
 unfolding frameText stampText
 frame-short f time =
-    words (ascii "(") & decimal-short 20 (time / 1000) & words (ascii ".") & digits-short 10 3 (time % 1000) & words (ascii "000) can0 ")
-    & digits-short 16 8 (f .«arbitration_id») & words (ascii "#") & digits-short 16 16 (payloadNumber (f .data)) & words endOfLine
+    words (ascii "(") & decimal-short 20 _ & words (ascii ".") & digits-short 10 3 _ & words (ascii "000) can0 ")
+    & digits-short 16 8 _ & words (ascii "#") & digits-short 16 16 _ & words endOfLine
 
 ping-short : (device responder : ℕ) (payload : List ℕ) → Short (pingText device responder payload) 27
 unfolding pingText

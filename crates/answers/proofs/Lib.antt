@@ -1,2 +1,3 @@
 pub mod Shifts
 pub mod Lengths
+pub mod ReadBack

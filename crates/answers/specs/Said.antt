@@ -7,8 +7,7 @@ use Rattle.codec.specs.declared.error.Checked.the-variants as checked
 use Rattle.codec.specs.declared.error.LastMode.{LastMode}
 use Rattle.codec.specs.declared.error.LastMode.the-variants as last
 use Rattle.codec.specs.declared.error.Refusal.{Refusal}
-use Rattle.codec.specs.declared.error.Refusal.the-variants as refusal
-use Rattle.codec.specs.Refusals.{numberOf}
+use Rattle.codec.specs.Refusals.{Carried, nothing, statusOf, lastRead, rowOf, numberOf}
 use Rattle.motor.specs.declared.engine.command.Outcome.{Outcome}
 use Rattle.motor.specs.declared.engine.command.Outcome.the-variants as outcome
 use Rattle.motor.specs.declared.engine.command.Said.{Said}
@@ -31,30 +30,13 @@ abbrev pub readFailed : ℕ → ℕ → List ℕ
 readFailed id status = fieldsText (id ∷ status ∷ 0 ∷ 0 ∷ 0 ∷ 0 ∷ 0 ∷ 0 ∷ []) (ascii "42")
 
 -- what 14 and 18 carry
-unfoldable pub carried : Refusal → List ℕ
-carried (refusal.ReadFailed id status) = readFailed id status
-carried (refusal.ModeNotReached last) = lastText last
-carried refusal.MotorIdOutOfRange = []
-carried refusal.HostIdOutOfRange = []
-carried refusal.UnknownModel = []
-carried refusal.StationFull = []
-carried refusal.IdRegistered = []
-carried refusal.IdNotRegistered = []
-carried refusal.TimeOutOfRange = []
-carried refusal.OperationRunning = []
-carried refusal.TimeoutTooLong = []
-carried refusal.UnlistedParameter = []
-carried refusal.KindDiffers = []
-carried refusal.UnknownProtocol = []
-carried refusal.FrameNotAccepted = []
-carried refusal.ReadingsFull = []
-carried refusal.WindowsGone = []
-carried refusal.UnsupportedRunMode = []
-carried refusal.NewDeviceIdZero = []
-carried refusal.ReadingOfAnotherKind = []
-carried refusal.NothingRunning = []
-carried refusal.NotPingReply = []
-carried refusal.NotVersionReply = []
+unfoldable pub carriedText : Carried → List ℕ
+carriedText nothing = []
+carriedText (statusOf id status) = readFailed id status
+carriedText (lastRead last) = lastText last
+
+abbrev pub carried : Refusal → List ℕ
+carried r = carriedText (rowOf r .1)
 
 -- refused N
 unfoldable pub refusedText : Refusal → List ℕ
@@ -70,8 +52,11 @@ unfoldable pub stampText : ℕ → List ℕ
 stampText time = ascii "(" ++ decimalOf (time / 1000) ++ ascii "." ++ digitsOf 10 3 (time % 1000) ++ ascii "000) can0 "
 
 -- (SECONDS.MICROS) can0 ID#DATA
+abbrev pub frameLine : CanFrame → ℕ → List ℕ
+frameLine f time = stampText time ++ digitsOf 16 8 (f .«arbitration_id») ++ ascii "#" ++ digitsOf 16 16 (payloadNumber (f .data))
+
 unfoldable pub frameText : CanFrame → ℕ → List ℕ
-frameText f time = stampText time ++ digitsOf 16 8 (f .«arbitration_id») ++ ascii "#" ++ digitsOf 16 16 (payloadNumber (f .data)) ++ endOfLine
+frameText f time = frameLine f time ++ endOfLine
 
 -- ping DEVICE RESPONDER PAYLOAD
 unfoldable pub pingText : ℕ → ℕ → List ℕ → List ℕ

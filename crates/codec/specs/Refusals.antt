@@ -7,58 +7,46 @@ use Rattle.codec.specs.declared.error.LastMode.the-variants.{Unread, Rea
 use Rattle.codec.specs.declared.error.Refusal.{Refusal}
 use Rattle.codec.specs.declared.error.Refusal.the-variants.{MotorIdOutOfRange, HostIdOutOfRange, UnknownModel, StationFull, IdRegistered, IdNotRegistered, TimeOutOfRange, OperationRunning, TimeoutTooLong, UnlistedParameter, KindDiffers, UnknownProtocol, FrameNotAccepted, ReadFailed, ReadingsFull, WindowsGone, UnsupportedRunMode, ModeNotReached, NewDeviceIdZero, ReadingOfAnotherKind, NothingRunning, NotPingReply, NotVersionReply}
 
+-- what a refusal carries beside its number
+pub data Carried : Type 0 where
+  nothing : Carried
+  statusOf : ℕ → ℕ → Carried
+  lastRead : LastMode → Carried
+
+-- the number of each refusal, and what it carries: 14 its id and status, 18 the last value, the others nothing
+abbrev pub rowOf : Refusal → ℕ × Carried
+rowOf MotorIdOutOfRange = (1, nothing)
+rowOf HostIdOutOfRange = (2, nothing)
+rowOf UnknownModel = (3, nothing)
+rowOf StationFull = (4, nothing)
+rowOf IdRegistered = (5, nothing)
+rowOf IdNotRegistered = (6, nothing)
+rowOf TimeOutOfRange = (7, nothing)
+rowOf OperationRunning = (8, nothing)
+rowOf TimeoutTooLong = (9, nothing)
+rowOf UnlistedParameter = (10, nothing)
+rowOf KindDiffers = (11, nothing)
+rowOf UnknownProtocol = (12, nothing)
+rowOf FrameNotAccepted = (13, nothing)
+rowOf (ReadFailed id status) = (14, statusOf id status)
+rowOf ReadingsFull = (15, nothing)
+rowOf WindowsGone = (16, nothing)
+rowOf UnsupportedRunMode = (17, nothing)
+rowOf (ModeNotReached last) = (18, lastRead last)
+rowOf NewDeviceIdZero = (19, nothing)
+rowOf ReadingOfAnotherKind = (20, nothing)
+rowOf NothingRunning = (21, nothing)
+rowOf NotPingReply = (22, nothing)
+rowOf NotVersionReply = (23, nothing)
+
 abbrev pub numberOf : Refusal → ℕ
-numberOf MotorIdOutOfRange = 1
-numberOf HostIdOutOfRange = 2
-numberOf UnknownModel = 3
-numberOf StationFull = 4
-numberOf IdRegistered = 5
-numberOf IdNotRegistered = 6
-numberOf TimeOutOfRange = 7
-numberOf OperationRunning = 8
-numberOf TimeoutTooLong = 9
-numberOf UnlistedParameter = 10
-numberOf KindDiffers = 11
-numberOf UnknownProtocol = 12
-numberOf FrameNotAccepted = 13
-numberOf (ReadFailed id status) = 14
-numberOf ReadingsFull = 15
-numberOf WindowsGone = 16
-numberOf UnsupportedRunMode = 17
-numberOf (ModeNotReached last) = 18
-numberOf NewDeviceIdZero = 19
-numberOf ReadingOfAnotherKind = 20
-numberOf NothingRunning = 21
-numberOf NotPingReply = 22
-numberOf NotVersionReply = 23
+numberOf r = rowOf r .0
 
--- what 18 gives: the value, or none
-abbrev pub lastOf : LastMode → List ℤ
-lastOf Unread = []
-lastOf (Read value) = value ∷ []
+abbrev pub listed : Carried → List ℤ
+listed nothing = []
+listed (statusOf id status) = pos id ∷ pos status ∷ []
+listed (lastRead Unread) = []
+listed (lastRead (Read value)) = value ∷ []
 
--- a number carries no other data but as said: 14 its id and status, 18 its value
 abbrev pub valuesOf : Refusal → List ℤ
-valuesOf MotorIdOutOfRange = []
-valuesOf HostIdOutOfRange = []
-valuesOf UnknownModel = []
-valuesOf StationFull = []
-valuesOf IdRegistered = []
-valuesOf IdNotRegistered = []
-valuesOf TimeOutOfRange = []
-valuesOf OperationRunning = []
-valuesOf TimeoutTooLong = []
-valuesOf UnlistedParameter = []
-valuesOf KindDiffers = []
-valuesOf UnknownProtocol = []
-valuesOf FrameNotAccepted = []
-valuesOf (ReadFailed id status) = pos id ∷ pos status ∷ []
-valuesOf ReadingsFull = []
-valuesOf WindowsGone = []
-valuesOf UnsupportedRunMode = []
-valuesOf (ModeNotReached last) = lastOf last
-valuesOf NewDeviceIdZero = []
-valuesOf ReadingOfAnotherKind = []
-valuesOf NothingRunning = []
-valuesOf NotPingReply = []
-valuesOf NotVersionReply = []
+valuesOf r = listed (rowOf r .1)

@@ -15,7 +15,7 @@ use Rattle.codec.specs.declared.word.Word.{Word}
 use Rattle.motor.specs.declared.engine.command.Command.{Command}
 use Rattle.motor.specs.declared.engine.command.Command.the-variants as command
 use Rattle.bytes.specs.Bytes.{indexOf}
-use Rattle.text.specs.Words.{wordsIn, wordAt}
+use Rattle.text.specs.Words.{wordAt}
 use Rattle.station.specs.declared.call.Call.the-variants as call
 use Rattle.session.specs.declared.arguments.Args.{Args}
 use Rattle.session.specs.declared.arguments.Fitting.{Fitting}
@@ -128,7 +128,7 @@ abbrev pub startedBy : List ℕ → List ℕ → ℕ → Event
 startedBy line shape k = ifFit (fitOf line shape (argsOf line shape .good)) (startAt k shape (argsOf line shape .v))
 
 abbrev pub startedAs : List ℕ → ℕ → Event
-startedAs line at = orEvent (leb (wordsIn commands) at) (error reason.NoSuchCommand) (startedBy line (wordAt commands (at + 1)) (at / 2))
+startedAs line at = orEvent (eqb (at % 2) 1) (error reason.NoSuchCommand) (startedBy line (wordAt commands (at + 1)) (at / 2))
 
 -- start ID TIME COMMAND ARGS
 unfoldable pub started : List ℕ → Event

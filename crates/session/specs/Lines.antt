@@ -2,11 +2,11 @@
 use Prim.Native.Nat.{ℕ, _+_, _-_, _/_, _%_, _^_}
 use mathlib.Core.Bool.{Bool, cond}
 use mathlib.Core.List.{List}
-use lib.Dec.{eqb, ltb, leb}
+use lib.Dec.{eqb, ltb}
 use lib.ListN.{length, getD}
 use Rattle.codec.specs.Models.{modelNamed}
 use Rattle.station.specs.declared.call.Call.the-variants as call
-use Rattle.text.specs.Words.{wordsIn, wordAt}
+use Rattle.text.specs.Words.{wordAt}
 use Rattle.session.specs.declared.arguments.Fitting.{Fitting}
 use Rattle.session.specs.declared.arguments.Fitting.the-variants as fit
 use Rattle.session.specs.declared.event.Event.the-variants as event
@@ -53,7 +53,7 @@ unfoldable pub called : List ℕ → List ℕ → ℕ → Line
 called line shape k = orLine (eqb k 6) (bare (started line)) (calledBy line shape k)
 
 abbrev pub lineBy : List ℕ → ℕ → Line
-lineBy line at = orLine (leb (wordsIn events) at) (bad reason.NoSuchEvent) (called line (wordAt events (at + 1)) (at / 2))
+lineBy line at = orLine (eqb (at % 2) 1) (bad reason.NoSuchEvent) (called line (wordAt events (at + 1)) (at / 2))
 
 -- Blank lines and comments are nothing; a line has at most 4,096 bytes; one that begins with ( is a line of a log; else the first
 -- word says which event it is.

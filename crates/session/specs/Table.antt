@@ -1,5 +1,5 @@
 -- The words of a session. Of commands and events a table has a row for each: its name, and the shape of its line. Definitions only.
-use Prim.Native.Nat.{ℕ, _%_}
+use Prim.Native.Nat.{ℕ}
 use mathlib.Core.Bool.{cond}
 use mathlib.Core.List.{List}
 use lib.Dec.{eqb}
@@ -20,10 +20,9 @@ modes = ascii "mit pp velocity csp"
 abbrev pub kinds : List ℕ
 kinds = ascii "i8 u8 u16 u32 f32"
 
--- a shape's place is no name's
-abbrev pub nameOr : List ℕ → ℕ → ℕ
-nameOr table at = cond (eqb (at % 2) 1) (wordsIn table) at
+abbrev pub foundAt : ℕ → ℕ → ℕ
+foundAt at n = cond (eqb at n) 1 at
 
--- where a name stands among the words of a table; as many as these for no name
+-- where a name stands among the words of a table, an even place; an odd one, a shape's or 1, for no name
 unfoldable pub placeOf : List ℕ → List ℕ → ℕ
-placeOf table w = nameOr table (whichOf table (wordsIn table) w)
+placeOf table w = foundAt (whichOf table (wordsIn table) w) (wordsIn table)

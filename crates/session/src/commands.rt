@@ -23,9 +23,8 @@ ghost use Rattle.session.specs.Commands as spec;
 pub(crate) fn started(line: &[u8]) -> Event
     ensures { λ r. ⌜ r ≡ spec.started (now (line .entry)) ⌝ }
 {
-    let n = text::word_count(&COMMANDS);
     let at = place(&COMMANDS, text::word(line, 3));
-    if n <= at {
+    if at % 2 == 1 {
         return Event::Other(Other::Error(Reason::NoSuchCommand));
     }
     let shape = text::word(&COMMANDS, at + 1);

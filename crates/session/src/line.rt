@@ -58,9 +58,8 @@ pub fn read_line(line: &[u8]) -> Line
     if line[0] == b'(' {
         return heard(line);
     }
-    let n = text::word_count(&EVENTS);
     let at = place(&EVENTS, text::word(line, 0));
-    if n <= at {
+    if at % 2 == 1 {
         return bad(Reason::NoSuchEvent);
     }
     called(line, text::word(&EVENTS, at + 1), at / 2)

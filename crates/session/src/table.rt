@@ -1,9 +1,7 @@
 // The words of a session, a table for each kind. Of commands and events a table has a row for each: its name, and the shape of
 // its line (see arguments), all of them words. The Rust has the commands' names and their order.
 ghost use mathlib.Core.Path.{_≡_};
-ghost use Prim.Native.Nat.{_≤_};
 ghost use Rattle.session.specs.Table.{placeOf};
-ghost use Rattle.text.specs.Words.{wordsIn};
 
 // The commands of a start, each with the shape of the whole line.
 pub const COMMANDS: [u8; 529] =
@@ -21,14 +19,14 @@ pub const MODES: [u8; 19] = *b"mit pp velocity csp";
 
 pub const KINDS: [u8; 17] = *b"i8 u8 u16 u32 f32";
 
-// Where a name stands among the words of a table; as many as these for no name.
+// Where a name stands among the words of a table, an even place; an odd one for no name.
 pub(crate) fn place(table: &[u8], w: &[u8]) -> usize
     ensures { λ r. ⌜ r ≡ placeOf (now (table .entry)) (now (w .entry)) ⌝ }
 {
     let n = text::word_count(table);
     let at = text::which(table, n, w);
-    if at % 2 == 1 {
-        return n;
+    if at == n {
+        return 1;
     }
     at
 }

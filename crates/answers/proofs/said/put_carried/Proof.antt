@@ -8,7 +8,7 @@ use Rattle.codec.specs.declared.error.Refusal.{Refusal}
 use Rattle.codec.specs.declared.error.Refusal.the-variants as refusal
 use Rattle.codec.proofs.error.Refusal.{the-type}
 use Rattle.text.proofs.Putting.{put-nil}
-use Rattle.answers.specs.Said.{carried}
+use Rattle.answers.specs.Said.{carried, carriedText}
 use borrow.Author.Needs.{needs}
 use Rattle.answers.proofs.said.put_carried.Statement.{statement}
 use Rattle.answers.proofs.said.put_carried.Tie as tie
@@ -17,31 +17,31 @@ use Rattle.answers.proofs.said.put_carried.Tie as tie
 abbrev bare : List ℕ
 bare = 0 ∷ 1 ∷ 2 ∷ 3 ∷ 4 ∷ 5 ∷ 6 ∷ 7 ∷ 8 ∷ 9 ∷ 10 ∷ 11 ∷ 12 ∷ 14 ∷ 15 ∷ 16 ∷ 18 ∷ 19 ∷ 20 ∷ 21 ∷ 22 ∷ []
 
-nothing : (r : Refusal) → OneOf bare (tagOf the-type r) → carried r ≡ []
-unfolding carried
-nothing refusal.MotorIdOutOfRange h = refl
-nothing refusal.HostIdOutOfRange h = refl
-nothing refusal.UnknownModel h = refl
-nothing refusal.StationFull h = refl
-nothing refusal.IdRegistered h = refl
-nothing refusal.IdNotRegistered h = refl
-nothing refusal.TimeOutOfRange h = refl
-nothing refusal.OperationRunning h = refl
-nothing refusal.TimeoutTooLong h = refl
-nothing refusal.UnlistedParameter h = refl
-nothing refusal.KindDiffers h = refl
-nothing refusal.UnknownProtocol h = refl
-nothing refusal.FrameNotAccepted h = refl
-nothing (refusal.ReadFailed id status) h = absurd (miss bare 13 tt h)
-nothing refusal.ReadingsFull h = refl
-nothing refusal.WindowsGone h = refl
-nothing refusal.UnsupportedRunMode h = refl
-nothing (refusal.ModeNotReached last) h = absurd (miss bare 17 tt h)
-nothing refusal.NewDeviceIdZero h = refl
-nothing refusal.ReadingOfAnotherKind h = refl
-nothing refusal.NothingRunning h = refl
-nothing refusal.NotPingReply h = refl
-nothing refusal.NotVersionReply h = refl
+bare-text : (r : Refusal) → OneOf bare (tagOf the-type r) → carried r ≡ []
+unfolding carriedText
+bare-text refusal.MotorIdOutOfRange h = refl
+bare-text refusal.HostIdOutOfRange h = refl
+bare-text refusal.UnknownModel h = refl
+bare-text refusal.StationFull h = refl
+bare-text refusal.IdRegistered h = refl
+bare-text refusal.IdNotRegistered h = refl
+bare-text refusal.TimeOutOfRange h = refl
+bare-text refusal.OperationRunning h = refl
+bare-text refusal.TimeoutTooLong h = refl
+bare-text refusal.UnlistedParameter h = refl
+bare-text refusal.KindDiffers h = refl
+bare-text refusal.UnknownProtocol h = refl
+bare-text refusal.FrameNotAccepted h = refl
+bare-text (refusal.ReadFailed id status) h = absurd (miss bare 13 tt h)
+bare-text refusal.ReadingsFull h = refl
+bare-text refusal.WindowsGone h = refl
+bare-text refusal.UnsupportedRunMode h = refl
+bare-text (refusal.ModeNotReached last) h = absurd (miss bare 17 tt h)
+bare-text refusal.NewDeviceIdZero h = refl
+bare-text refusal.ReadingOfAnotherKind h = refl
+bare-text refusal.NothingRunning h = refl
+bare-text refusal.NotPingReply h = refl
+bare-text refusal.NotVersionReply h = refl
 
 enum-known-refusal : tie.Need-enum-known-refusal
 enum-known-refusal c = search needs
@@ -59,18 +59,18 @@ same-length : tie.Need-same-length
 same-length c = search needs
 
 returns : tie.Need-returns
-unfolding carried
+unfolding carriedText
 returns c = rw (c .before .before .before .before .before .refusal .given .1) (c .before .before .put-read-failed .ensures)
 
 same-length-2 : tie.Need-same-length-2
 same-length-2 c = search needs
 
 returns-2 : tie.Need-returns-2
-unfolding carried
+unfolding carriedText
 returns-2 c = rw (c .before .before .before .before .before .refusal2 .given .1) (c .before .before .put-last .ensures)
 
 returns-3 : tie.Need-returns-3
-returns-3 c = rw (nothing _ (c .match .keys3)) (put-nil _ _)
+returns-3 c = rw (bare-text _ (c .match .keys3)) (put-nil _ _)
 
 pub put-carried-spec : {M : Type 1} → statement M
 put-carried-spec =

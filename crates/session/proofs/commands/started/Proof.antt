@@ -1,15 +1,9 @@
 -- Right because the command's place, its shape and the arguments are the definition's.
-use borrow.Author.Tests.{le-leb, lt-leb}
+use borrow.Author.Tests.{eq-eqb, ne-eqb}
 use Rattle.session.specs.Commands.{started}
 use borrow.Author.Needs.{needs}
 use Rattle.session.proofs.commands.started.Statement.{statement}
 use Rattle.session.proofs.commands.started.Tie as tie
-
-slice-aggregate-word-count : tie.Need-slice-aggregate-word-count
-slice-aggregate-word-count c = search needs
-
-word-count-requires : tie.Need-word-count-requires
-word-count-requires c κs = search needs
 
 slice-aggregate-place : tie.Need-slice-aggregate-place
 slice-aggregate-place c = search needs
@@ -25,8 +19,7 @@ unfolding started
 returns c =
     let p1 = c .before in
     let p2 = p1 .before in
-    let p3 = p2 .before .before in
-    rw (← p3 .word-count .ensures, ← p2 .word .ensures, ← p1 .place .ensures, le-leb _ _ (c .if1 .taken))
+    rw (← p2 .word .ensures, ← p1 .place .ensures, eq-eqb _ _ (c .if1 .taken))
 
 slice-aggregate-word : tie.Need-slice-aggregate-word
 slice-aggregate-word c = search needs
@@ -62,8 +55,7 @@ returns-2 c =
     let p5 = p4 .before .before in
     let p6 = p5 .before in
     let p7 = p6 .before in
-    let p8 = p7 .before .before in
-    rw (← p8 .word-count .ensures, ← p7 .word .ensures, ← p6 .place .ensures, lt-leb _ _ (p5 .if1 .left), ← p4 .word2 .ensures, ← p3 .arguments .ensures, ← p2 .fit .ensures, p1 .enum-told .given .1) (c .start-of .ensures)
+    rw (← p7 .word .ensures, ← p6 .place .ensures, ne-eqb _ _ (p5 .if1 .left), ← p4 .word2 .ensures, ← p3 .arguments .ensures, ← p2 .fit .ensures, p1 .enum-told .given .1) (c .start-of .ensures)
 
 returns-3 : tie.Need-returns-3
 unfolding started
@@ -75,15 +67,12 @@ returns-3 c =
     let p5 = p4 .before .before in
     let p6 = p5 .before in
     let p7 = p6 .before in
-    let p8 = p7 .before .before in
-    rw (← p8 .word-count .ensures, ← p7 .word .ensures, ← p6 .place .ensures, lt-leb _ _ (p5 .if1 .left), ← p4 .word2 .ensures, ← p3 .arguments .ensures, ← p2 .fit .ensures, p1 .reason .given .1)
+    rw (← p7 .word .ensures, ← p6 .place .ensures, ne-eqb _ _ (p5 .if1 .left), ← p4 .word2 .ensures, ← p3 .arguments .ensures, ← p2 .fit .ensures, p1 .reason .given .1)
 
 pub started-spec : {M : Type 1} → statement M
 started-spec =
     tie.close
     (tie.spec
-    slice-aggregate-word-count
-    word-count-requires
     slice-aggregate-place
     word-requires
     place-requires

@@ -1,5 +1,5 @@
 -- Right because the tests are the definition's, in its order.
-use borrow.Author.Tests.{eq-eqb, le-leb, le-ltb, lt-leb, lt-ltb, ne-eqb}
+use borrow.Author.Tests.{eq-eqb, le-ltb, lt-ltb, ne-eqb}
 use Rattle.session.specs.Lines.{readLine}
 use borrow.Author.Needs.{needs}
 use Rattle.session.proofs.line.read_line.Statement.{statement}
@@ -48,12 +48,6 @@ returns-4 c =
     let p4 = p3 .before .before in
     rw (ne-eqb _ _ (p4 .if1 .left), ne-eqb _ _ (p3 .if2 .left), le-ltb _ _ (p2 .if3 .left), eq-eqb _ _ (p1 .if4 .taken)) (c .heard .ensures)
 
-slice-aggregate-word-count : tie.Need-slice-aggregate-word-count
-slice-aggregate-word-count c = search needs
-
-word-count-requires : tie.Need-word-count-requires
-word-count-requires c κs = search needs
-
 slice-aggregate-place : tie.Need-slice-aggregate-place
 slice-aggregate-place c = search needs
 
@@ -74,10 +68,9 @@ returns-5 c =
     let p2 = p1 .before in
     let p3 = p2 .before .before in
     let p4 = p3 .before .before in
-    let p5 = p4 .before .before in
-    let p6 = p5 .before in
-    let p7 = p6 .before .before in
-    rw (ne-eqb _ _ (p7 .if1 .left), ne-eqb _ _ (p6 .if2 .left), le-ltb _ _ (p5 .if3 .left), ne-eqb _ _ (p4 .if4 .left), ← p3 .word-count .ensures, ← p2 .word .ensures, ← p1 .place .ensures, le-leb _ _ (d .if5 .taken)) (c .bad2 .ensures)
+    let p5 = p4 .before in
+    let p6 = p5 .before .before in
+    rw (ne-eqb _ _ (p6 .if1 .left), ne-eqb _ _ (p5 .if2 .left), le-ltb _ _ (p4 .if3 .left), ne-eqb _ _ (p3 .if4 .left), ← p2 .word .ensures, ← p1 .place .ensures, eq-eqb _ _ (d .if5 .taken)) (c .bad2 .ensures)
 
 slice-aggregate-word : tie.Need-slice-aggregate-word
 slice-aggregate-word c = search needs
@@ -100,10 +93,9 @@ returns-6 c =
     let p4 = p3 .before in
     let p5 = p4 .before .before in
     let p6 = p5 .before .before in
-    let p7 = p6 .before .before in
-    let p8 = p7 .before in
-    let p9 = p8 .before .before in
-    rw (ne-eqb _ _ (p9 .if1 .left), ne-eqb _ _ (p8 .if2 .left), le-ltb _ _ (p7 .if3 .left), ne-eqb _ _ (p6 .if4 .left), ← p5 .word-count .ensures, ← p4 .word .ensures, ← p3 .place .ensures, lt-leb _ _ (p2 .if5 .left), ← p1 .word2 .ensures) (c .called .ensures)
+    let p7 = p6 .before in
+    let p8 = p7 .before .before in
+    rw (ne-eqb _ _ (p8 .if1 .left), ne-eqb _ _ (p7 .if2 .left), le-ltb _ _ (p6 .if3 .left), ne-eqb _ _ (p5 .if4 .left), ← p4 .word .ensures, ← p3 .place .ensures, ne-eqb _ _ (p2 .if5 .left), ← p1 .word2 .ensures) (c .called .ensures)
 
 pub read-line-spec : {M : Type 1} → statement M
 read-line-spec =
@@ -119,8 +111,6 @@ read-line-spec =
     shared-slice-read-if4
     heard-requires
     returns-4
-    slice-aggregate-word-count
-    word-count-requires
     slice-aggregate-place
     word-requires
     place-requires

@@ -1,4 +1,4 @@
--- Right because the place found is the definition's, and a shape's stands at an odd one.
+-- Right because the place found is the definition's.
 use borrow.Author.Tests.{eq-eqb, ne-eqb}
 use Rattle.session.specs.Table.{placeOf}
 use borrow.Author.Needs.{needs}

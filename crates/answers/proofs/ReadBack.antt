@@ -1,0 +1,222 @@
+-- What is printed is read back by session: a command's name as its row, a frame as that frame. Assumes nothing.
+use Prim.Native.Nat.{ℕ, suc, _+_, _*_, _-_, _/_, _%_, _^_, _≤_, _<_}
+use mathlib.Core.Path.{_≡_, refl, ap, _∙_}
+use mathlib.Core.Bool.{true}
+use mathlib.Core.List.{List, [], _∷_, _++_, append-nil, append-assoc}
+use native.Mathlib.Omega.{arith}
+use lib.ListN.{length, take, drop, getD, length-append}
+use lib.Seq.{take-at, drop-at, getD-at}
+use borrow.Author.Tests.{le-ltb, lt-ltb, lt-leb, ne-eqb}
+use Rattle.bytes.specs.Bytes.{indexOf, indexAfter}
+use Rattle.codec.specs.declared.bus.CanFrame.{CanFrame}
+use Rattle.motor.specs.declared.engine.command.Command.{Command}
+use Rattle.motor.specs.declared.engine.command.Command.the-variants as command
+use Rattle.text.specs.declared.numbers.Num.the-variants.{Value}
+use Rattle.text.specs.Ascii.{ascii}
+use Rattle.text.specs.Numbers.{inBase, readFrom}
+use Rattle.text.specs.Put.{glyphOf, digitsOf, decimalIn}
+use Rattle.text.specs.Words.{wordsIn, wordAt, whichOf, sameBytes}
+use Rattle.text.proofs.Reading.{some}
+use Rattle.text.proofs.ReadBack.{glyph-range, read-glyph, read-digits, digits-length, digits-back, decimal-some, decimal-back, index-past, free-append, digits-free, decimal-free, word-first, word-later, word-only, words-past}
+use Rattle.session.specs.declared.event.Event.{Event}
+use Rattle.session.specs.declared.event.Event.the-variants as event
+use Rattle.session.specs.Table.{commands, placeOf}
+use Rattle.session.specs.Commands.{commandAt, driven, parameterCall, startedBy, started}
+use Rattle.session.specs.Heard.{millisecondsOf, stampIn, stampOf, shiftedBy, dataIn, dataFrame, frameIn, heardIn}
+use Rattle.session.specs.Lines.{readLine}
+use Rattle.answers.specs.Values.{payloadNumber}
+use Rattle.answers.specs.Names.{commandPlace, commandName}
+use Rattle.answers.specs.Said.{stampText, frameLine, frameText}
+use Rattle.answers.proofs.Lengths.{frame-short}
+
+-- ---- commands
+
+-- the name is found in its row, and a command of that row has the name
+abbrev Row : Command → List ℕ → Type 0
+Row c v =
+    (placeOf commands (commandName c) ≡ 2 * commandPlace c)
+    × (commandPlace (commandAt (commandPlace c) v) ≡ commandPlace c)
+
+row : (c : Command) (v : List ℕ) → Row c v
+unfolding placeOf whichOf wordsIn wordAt sameBytes indexOf indexAfter commandPlace commandAt driven parameterCall
+row (command.Ping t) v = (refl, refl)
+row (command.PingWithHostId h t) v = (refl, refl)
+row (command.SetMode m) v = (refl, refl)
+row (command.EnsureControlMode m t) v = (refl, refl)
+row command.SetZeroPosition v = (refl, refl)
+row command.SaveParameters v = (refl, refl)
+row (command.GetProtocolFlag t) v = (refl, refl)
+row (command.SetProtocol p t) v = (refl, refl)
+row (command.SetDeviceId n) v = (refl, refl)
+row command.Enable v = (refl, refl)
+row command.Disable v = (refl, refl)
+row command.ClearError v = (refl, refl)
+row (command.SetActiveReport b) v = (refl, refl)
+row (command.SendCmdMit p s kp kd t) v = (refl, refl)
+row (command.SetVelocityTarget s) v = (refl, refl)
+row (command.GetControlMode t) v = (refl, refl)
+row (command.ControlledStop t) v = (refl, refl)
+row (command.WriteParameter id w) v = (refl, refl)
+row (command.SendCmdPosVelCsp p s) v = (refl, refl)
+row (command.SendCmdPosVelPp p s a) v = (refl, refl)
+row (command.RequestParameter id) v = (refl, refl)
+row (command.GetParameter id t) v = (refl, refl)
+row (command.GetParameterWithHostId id h t) v = (refl, refl)
+row (command.GetParameterF32 id t) v = (refl, refl)
+row (command.GetParameterI8 id t) v = (refl, refl)
+
+-- a start with the name that is printed for a command is read as its row says
+pub command-read-back : (c : Command) (line : List ℕ) → wordAt line 3 ≡ commandName c
+    → started line ≡ startedBy line (wordAt commands (2 * commandPlace c + 1)) (commandPlace c)
+unfolding started
+command-read-back c line e =
+    let half : 2 * commandPlace c / 2 ≡ commandPlace c = omega arith in
+    rw (e, row c [] .0, ne-eqb (2 * commandPlace c % 2) 1 (λ h. omega arith), half)
+
+-- and the command that it starts is printed by the same name
+pub same-name : (c : Command) (v : List ℕ) → commandName (commandAt (commandPlace c) v) ≡ commandName c
+same-name c v = rw (row c v .1)
+
+-- ---- frames: the stamp
+
+abbrev stampWord : List ℕ → List ℕ → List ℕ
+stampWord seconds micros = 40 ∷ (seconds ++ 46 ∷ (micros ++ 41 ∷ []))
+
+stamp-at : (w : List ℕ) (n : ℕ) (seconds micros : List ℕ) → 10 ≤ n → getD w (n - 1) 0 ≡ 41 → getD w (n - 8) 0 ≡ 46
+    → take (n - 9) (drop 1 w) ≡ seconds → take 6 (drop (n - 7) w) ≡ micros → stampIn w n ≡ millisecondsOf (inBase 10 seconds) (inBase 10 micros)
+unfolding stampIn
+stamp-at w n seconds micros h a b c d = rw (le-ltb _ _ h, a, b, c, d)
+
+stamp-word : (seconds micros : List ℕ) → 0 < length seconds → length micros ≡ 6
+    → stampOf (stampWord seconds micros) ≡ millisecondsOf (inBase 10 seconds) (inBase 10 micros)
+stamp-word s m h six =
+    let n : length (stampWord s m) ≡ length s + 9 = simp length-append (omega arith) in
+    let e : stampWord s m ≡ (40 ∷ (s ++ 46 ∷ m)) ++ 41 ∷ [] = simp append-assoc in
+    let f : stampWord s m ≡ (40 ∷ (s ++ 46 ∷ [])) ++ (m ++ 41 ∷ []) = simp append-assoc in
+    let close : getD (stampWord s m) (length s + 9 - 1) 0 ≡ 41
+    = ap (λ (l : List ℕ). getD l (length s + 9 - 1) 0) e ∙ getD-at (40 ∷ (s ++ 46 ∷ m)) 41 [] 0 (length s + 9 - 1) (simp length-append (omega arith)) in
+    let point : getD (stampWord s m) (length s + 9 - 8) 0 ≡ 46 = getD-at (40 ∷ s) 46 (m ++ 41 ∷ []) 0 (length s + 9 - 8) (omega arith) in
+    let before : take (length s + 9 - 9) (drop 1 (stampWord s m)) ≡ s = take-at s (46 ∷ (m ++ 41 ∷ [])) (length s + 9 - 9) (omega arith) in
+    let after : take 6 (drop (length s + 9 - 7) (stampWord s m)) ≡ m
+    = ap (λ (l : List ℕ). take 6 (drop (length s + 9 - 7) l)) f
+    ∙ ap (λ (l : List ℕ). take 6 l) (drop-at (40 ∷ (s ++ 46 ∷ [])) (m ++ 41 ∷ []) (length s + 9 - 7) (simp length-append (omega arith)))
+    ∙ take-at m (41 ∷ []) 6 six in
+    ap (λ (k : ℕ). stampIn (stampWord s m) k) n ∙ stamp-at (stampWord s m) (length s + 9) s m (omega arith) close point before after
+
+abbrev microsOf : ℕ → List ℕ
+microsOf millis = digitsOf 10 3 millis ++ 48 ∷ 48 ∷ 48 ∷ []
+
+micros-back : (n : ℕ) → n < 1000 → inBase 10 (microsOf n) ≡ Value (n * 1000)
+unfolding readFrom glyphOf
+micros-back n h =
+    let z : ((n * 10 + 0) * 10 + 0) * 10 + 0 ≡ n * 1000 = omega arith in
+    some 10 (microsOf n) (rw length-append (omega arith))
+    ∙ read-digits 10 (omega arith) (omega arith) 3 n (48 ∷ 48 ∷ 48 ∷ []) h (omega arith)
+    ∙ read-glyph 10 n 0 (48 ∷ 48 ∷ []) (omega arith) (omega arith) (omega arith)
+    ∙ read-glyph 10 (n * 10 + 0) 0 (48 ∷ []) (omega arith) (omega arith) (omega arith)
+    ∙ read-glyph 10 ((n * 10 + 0) * 10 + 0) 0 [] (omega arith) (omega arith) (omega arith)
+    ∙ rw z
+
+abbrev stampOfTime : ℕ → List ℕ
+stampOfTime time = stampWord (decimalIn 20 (time / 1000)) (microsOf (time % 1000))
+
+stamp-back : (time : ℕ) → time < 18446744073709551616 → stampOf (stampOfTime time) ≡ Value time
+unfolding millisecondsOf
+stamp-back time h =
+    let t : time / 1000 * 1000 + time % 1000 * 1000 / 1000 ≡ time = omega arith in
+    stamp-word (decimalIn 20 (time / 1000)) (microsOf (time % 1000)) (decimal-some 19 (time / 1000)) (rw (length-append, digits-length))
+    ∙ rw (decimal-back 19 (time / 1000) (omega arith) (omega arith), micros-back (time % 1000) (omega arith), t, lt-ltb _ _ h)
+
+stamp-free : (time : ℕ) → indexOf 32 (stampOfTime time) ≡ length (stampOfTime time)
+unfolding indexOf indexAfter
+stamp-free time =
+    free-append 32 (40 ∷ decimalIn 20 (time / 1000)) (46 ∷ (microsOf (time % 1000) ++ 41 ∷ [])) (ap suc (decimal-free 32 20 (time / 1000) (omega arith)))
+    (ap suc (free-append 32 (microsOf (time % 1000)) (41 ∷ []) (free-append 32 (digitsOf 10 3 (time % 1000)) (48 ∷ 48 ∷ 48 ∷ []) (digits-free 32 10 3 (time % 1000) (omega arith) (omega arith) (omega arith)) refl) refl))
+
+-- ---- frames: ID#DATA
+
+abbrev frameWord : ℕ → ℕ → List ℕ
+frameWord id n = digitsOf 16 8 id ++ 35 ∷ digitsOf 16 16 n
+
+data-at : (d : List ℕ) (time id n : ℕ) → length d ≡ 16 → 48 ≤ getD d 0 0 → getD d 0 0 ≤ 70 → inBase 16 d ≡ Value n
+    → dataFrame d time id true ≡ hands (canFrame id n true 8 true) time
+unfolding dataFrame dataIn shiftedBy
+data-at d time id n l a b r =
+    rw (l, ne-eqb (getD d 0 0) 0x52 (λ e. omega arith), ne-eqb (getD d 0 0) 0x23 (λ e. omega arith), r)
+
+frame-at : (w h d : List ℕ) (time id n : ℕ) → indexOf 0x23 w ≡ 8 → 8 < length w → take 8 w ≡ h → drop 9 w ≡ d
+    → length h ≡ 8 → inBase 16 h ≡ Value id → id ≤ 0x1FFF_FFFF → dataFrame d time id true ≡ hands (canFrame id n true 8 true) time
+    → frameIn w time ≡ hands (canFrame id n true 8 true) time
+unfolding frameIn
+frame-at w h d time id n i l t r k v s e =
+    let m : id % 2 ^ 32 ≡ id = omega arith in
+    rw (i, lt-leb _ _ l, t, r, k, v, le-ltb _ _ s, m) e
+
+first-digit : (n : ℕ) → (48 ≤ getD (digitsOf 16 16 n) 0 0) × (getD (digitsOf 16 16 n) 0 0 ≤ 70)
+unfolding digitsOf
+first-digit n = glyph-range _ (omega arith)
+
+frame-back : (time id n : ℕ) → id ≤ 0x1FFF_FFFF → n < 18446744073709551616 → frameIn (frameWord id n) time ≡ hands (canFrame id n true 8 true) time
+unfolding indexOf indexAfter
+frame-back time id n s w =
+    let a = digitsOf 16 8 id in
+    let d = digitsOf 16 16 n in
+    let i : indexOf 0x23 (frameWord id n) ≡ 8
+    = index-past 0x23 a (35 ∷ d) (digits-free 0x23 16 8 id (omega arith) (omega arith) (omega arith)) ∙ rw digits-length in
+    let l : 8 < length (frameWord id n) = rw (length-append, digits-length 16 8 id) (omega arith) in
+    let e : frameWord id n ≡ (a ++ 35 ∷ []) ++ d = simp append-assoc in
+    let g : drop 9 (frameWord id n) ≡ d
+    = ap (λ (l : List ℕ). drop 9 l) e ∙ drop-at (a ++ 35 ∷ []) d 9 (rw (length-append, digits-length)) in
+    frame-at (frameWord id n) a d time id n i l (take-at a (35 ∷ d) 8 (digits-length 16 8 id)) g (digits-length 16 8 id)
+    (digits-back 16 8 id (omega arith) (omega arith) (omega arith) (omega arith) (omega arith)) s
+    (data-at d time id n (digits-length 16 16 n) (first-digit n .0) (first-digit n .1) (digits-back 16 16 n (omega arith) (omega arith) (omega arith) (omega arith) w))
+
+frame-free : (id n : ℕ) → indexOf 32 (frameWord id n) ≡ length (frameWord id n)
+unfolding indexOf indexAfter
+frame-free id n =
+    free-append 32 (digitsOf 16 8 id) (35 ∷ digitsOf 16 16 n) (digits-free 32 16 8 id (omega arith) (omega arith) (omega arith))
+    (ap suc (digits-free 32 16 16 n (omega arith) (omega arith) (omega arith)))
+
+-- ---- frames: the line
+
+heard-at : (line w f : List ℕ) (time : ℕ) → wordsIn line ≡ 3 → length (wordAt line 1) ≡ 4 → wordAt line 0 ≡ w → wordAt line 2 ≡ f
+    → stampOf w ≡ Value time → heardIn line ≡ frameIn f time
+unfolding heardIn
+heard-at line w f time n l a b s = rw (n, l, a, b, s)
+
+abbrev logLine : List ℕ → List ℕ → List ℕ
+logLine w f = w ++ 32 ∷ (ascii "can0" ++ 32 ∷ f)
+
+heard-back : (w f : List ℕ) (time : ℕ) → indexOf 32 w ≡ length w → indexOf 32 f ≡ length f → stampOf w ≡ Value time
+    → heardIn (logLine w f) ≡ frameIn f time
+unfolding wordsIn wordAt indexOf indexAfter
+heard-back w f time a b s =
+    let one : wordsIn f ≡ 1 = rw append-nil at (words-past f b []) in
+    heard-at (logLine w f) w f time
+    (words-past w a (32 ∷ (ascii "can0" ++ 32 ∷ f)) ∙ rw one)
+    (ap (λ (l : List ℕ). length l) (word-later w a (ascii "can0" ++ 32 ∷ f) 0))
+    (word-first w a (ascii "can0" ++ 32 ∷ f))
+    (word-later w a (ascii "can0" ++ 32 ∷ f) 1 ∙ word-later (ascii "can0") refl f 0 ∙ word-only f b)
+    s
+
+log-line : (line : List ℕ) → (length line ≡ 0 → ⊥) → getD line 0 0 ≡ 40 → length line ≤ 4096 → readLine line ≡ heardIn line
+unfolding readLine
+log-line line z g h = rw (ne-eqb _ _ z, g, le-ltb _ _ h)
+
+payload-below : (d : List ℕ) → ((i : ℕ) → getD d i 0 < 256) → payloadNumber d < 18446744073709551616
+unfolding payloadNumber
+payload-below d h = omega (arith, h 0, h 1, h 2, h 3, h 4, h 5, h 6, h 7)
+
+-- a frame of eight bytes that is printed at a time is read, without its line end, as that frame heard at that time
+pub frame-read-back : (f : CanFrame) (time : ℕ) → f .«arbitration_id» ≤ 0x1FFF_FFFF → ((i : ℕ) → getD (f .data) i 0 < 256) → time < 18446744073709551616
+    → readLine (frameLine f time) ≡ hands (canFrame (f .«arbitration_id») (payloadNumber (f .data)) true 8 true) time
+unfolding stampText frameText
+frame-read-back f time s b h =
+    let id = f .«arbitration_id» in
+    let n = payloadNumber (f .data) in
+    let e : frameLine f time ≡ logLine (stampOfTime time) (frameWord id n) = simp append-assoc in
+    let short : length (frameLine f time) + 1 ≤ 61 = rw length-append at (frame-short f time .fits) in
+    log-line (frameLine f time) (λ z. omega (arith, ap (λ (l : List ℕ). length l) e)) (ap (λ (l : List ℕ). getD l 0 0) e) (omega arith)
+    ∙ ap heardIn e
+    ∙ heard-back (stampOfTime time) (frameWord id n) time (stamp-free time) (frame-free id n) (stamp-back time h)
+    ∙ frame-back time id n s (payload-below (f .data) b)
