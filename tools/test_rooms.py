@@ -2,7 +2,7 @@
 
     python3 tools/test_rooms.py
 
-motor's engine names nothing of the motor's own files, and what it shows them is what it makes public; the station's by-value
+motor's engine names nothing of the motor's own files but the limits, and what it shows them is what it makes public; the station's by-value
 calls don't see the lent ones.
 """
 
@@ -48,7 +48,7 @@ def engine_sees(crate: Path) -> list[str]:
         for path, room, text in files(crate)
         if room == "engine"
         for name in named("motor", text)
-        if name != "engine"
+        if name.lower() not in ("engine", "limits")
     ]
 
 

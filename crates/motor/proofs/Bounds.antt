@@ -19,6 +19,7 @@ use Rattle.motor.specs.declared.engine.operation.Operation.{Operation}
 use Rattle.motor.specs.declared.engine.operation.Phase.{Phase}
 use Rattle.motor.specs.declared.engine.operation.Phase.the-variants as phase
 use Rattle.motor.specs.declared.motor.State.{State}
+use Rattle.motor.specs.Limits.{latestTime, longestTimeout, mostDueSteps}
 use Rattle.motor.specs.Bounds.{Event, start, step, frame, other, after, afterAll, hasFrame, sends, passes, isDue, once, count, limitOf, GivenWithin, Given, Accepted, Bounds}
 use Rattle.motor.specs.Calls.{isIdle, arguedOf, orElse, startSaid, stepSaid, sightOf, wanted}
 use Rattle.motor.specs.Lone.{Lone, LoneAnswered, loneNew, loneMoved, loneStartBy, loneStart, loneStepBy, loneStep, hears}
@@ -40,13 +41,13 @@ stepped l now = advance (sightOf (l .state)) now (opOf l) (wanted (opOf l .phase
 
 -- the move that begins an operation
 started : (f d now : ℕ) (l : Lone) (c : Command)
-    → Moved f d 60000 now (omega arith) (nodeLeft f d (begins c)) (begin (sightOf (l .state)) now c)
+    → Moved f d longestTimeout now (omega arith) (nodeLeft f d (begins c)) (begin (sightOf (l .state)) now c)
 started f d now l c =
-    enter-moves f d 60000 now (omega arith) (nodeLeft f d (begins c)) (nodeLeft f d (begins c)) (sightOf (l .state)) (begins c)
+    enter-moves f d longestTimeout now (omega arith) (nodeLeft f d (begins c)) (nodeLeft f d (begins c)) (sightOf (l .state)) (begins c)
     (omega arith, begin-fits c .3) (omega arith)
 
 -- most: how far due times may lie from now
-step-moves : (f d most now : ℕ) (far : 60000 ≤ most) (l : Lone) → opOf l .window ≤ most → opOf l .due ≤ now + most
+step-moves : (f d most now : ℕ) (far : longestTimeout ≤ most) (l : Lone) → opOf l .window ≤ most → opOf l .due ≤ now + most
     → Moved f d most now far (restLeft f d (opOf l .phase) (opOf l) + cond (ltb now (opOf l .due)) d 0) (stepped l now)
 step-moves f d most now far l small near =
     advance-moves f d most now far (sightOf (l .state)) (opOf l) small near (opOf l .phase) (wanted (opOf l .phase) (λ id. lookup id (l .readings)))
@@ -98,7 +99,7 @@ module _ (f d : ℕ) where
       go : (said : Checked)
           → Spends l (loneStepBy said l now .lone) (hasFrame (loneStepBy said l now .said)) (passes said && not (ltb now (opOf l .due)))
       go checked.Passed =
-          let v = step-moves f d (60000 + opOf l .window + opOf l .due) now (omega arith) l (omega arith) (omega arith) in
+          let v = step-moves f d (longestTimeout + opOf l .window + opOf l .due) now (omega arith) l (omega arith) (omega arith) in
           omega (arith, v .paid, left-rest (opOf l .phase) (opOf l) i, either-way (ltb now (opOf l .due)))
       go (checked.Refused r) = omega arith
 
@@ -121,14 +122,14 @@ count-below test m h l (e ∷ es) =
 
 -- what due times keep to
 abbrev Timely : State → Type 0
-Timely s = (s .operation .window ≤ 60000) × (s .operation .due ≤ s .clock + 60000)
+Timely s = (s .operation .window ≤ longestTimeout) × (s .operation .due ≤ s .clock + longestTimeout)
 
 -- a time that 7 doesn't refuse
 on-time : (clock now : ℕ) → late clock now ≡ false → clock ≤ now
 unfolding late
 on-time clock now = go (ltb now clock) refl
   where
-    go : (t : Bool) → ltb now clock ≡ t → (t || ltb 1000000000000000 now) ≡ false → clock ≤ now
+    go : (t : Bool) → ltb now clock ≡ t → (t || ltb latestTime now) ≡ false → clock ≤ now
     go true e h = let z : _≡_ {A = ℕ} 0 1 = cc in absurd (omega arith)
     go false e h = ltb-false now clock e
 
@@ -156,7 +157,7 @@ step-timely l now h = go (stepSaid (l .state .clock) (opOf l .phase) now) refl
     go : (said : Checked) → stepSaid (l .state .clock) (opOf l .phase) now ≡ said → GivesTimely now (loneStepBy said l now)
     go checked.Passed e =
         let v =
-        step-moves 0 0 60000 now (omega arith) l (h .0) (omega (arith, h .1, step-on-time (l .state .clock) (opOf l .phase) now e)) in
+        step-moves 0 0 longestTimeout now (omega arith) l (h .0) (omega (arith, h .1, step-on-time (l .state .clock) (opOf l .phase) now e)) in
         (v .given, (v .window, v .due))
     go (checked.Refused r) e = (tt, h)
 
@@ -186,7 +187,7 @@ waits-later l now d = go (stepSaid (l .state .clock) (opOf l .phase) now)
   where
     go : (s : Checked) → loneStepBy s l now .said ≡ said.Waiting d → now < d
     go checked.Passed e =
-        let most = 60000 + opOf l .window + opOf l .due in
+        let most = longestTimeout + opOf l .window + opOf l .due in
         let v = step-moves 0 0 most now (omega arith) l (omega arith) (omega arith) in
         subst (λ (x : Said). GivenWithin most now x (stepped l now .operation .due)) e (v .given) .0
     go (checked.Refused r) e = subst (λ (x : Said). GivenWithin 0 now x 0) e tt .0
@@ -217,7 +218,7 @@ bounds =
       limits = λ c. begin-fits c .1;
       steps =
           λ l c now es h.
-          accepted l c now (λ a. count isDue (a .lone) es ≤ 40) h
+          accepted l c now (λ a. count isDue (a .lone) es ≤ mostDueSteps) h
           (omega (arith, begin-fits c .2, started 0 1 now l c .paid, due-steps (begun l c now .lone) es));
       waits = λ l now d h e. (waits-later l now d e, omega (arith, waits-later l now d e));
       started =

@@ -8,6 +8,7 @@ use lib.ListN.{length, set, length-set}
 use lib.Seq.{getD-set-same, getD-set-other}
 use Rattle.motor.specs.declared.readings.Reading.{Reading}
 use Rattle.motor.specs.declared.readings.Entry.{Entry}
+use Rattle.motor.specs.Limits.{mostReadings}
 use Rattle.motor.specs.Readings.{entry, Numbered, numbers, reading, freeRecord, recAt, nextAt, entryAt, Chain, times, unused}
 use Rattle.motor.proofs.Times.{UpTo, times-here, times-more, not-first}
 
@@ -19,14 +20,14 @@ pub numbers-unused : (fs : List ℕ) → numbers (map unused fs) ≡ fs
 numbers-unused [] = refl
 numbers-unused (f ∷ fs) = ap (λ (t : List ℕ). f ∷ t) (numbers-unused fs)
 
-pub chain-upto : (r : List Reading) (h : ℕ) (l : List Numbered) → Chain r h l → UpTo 96 (numbers l)
+pub chain-upto : (r : List Reading) (h : ℕ) (l : List Numbered) → Chain r h l → UpTo mostReadings (numbers l)
 chain-upto r h [] c = tt
 chain-upto r h (j ∷ js) c = (c .1, c .2, chain-upto r (nextAt r (j .0)) js (c .4))
 
-pub free-upto : (r : List Reading) (h : ℕ) (fs : List ℕ) → Chain r h (map unused fs) → UpTo 96 fs
+pub free-upto : (r : List Reading) (h : ℕ) (fs : List ℕ) → Chain r h (map unused fs) → UpTo mostReadings fs
 free-upto r h fs c = rw (numbers-unused fs) at (chain-upto r h (map unused fs) c)
 
-pub head-le : (r : List Reading) (h : ℕ) (l : List Numbered) → Chain r h l → h ≤ 96
+pub head-le : (r : List Reading) (h : ℕ) (l : List Numbered) → Chain r h l → h ≤ mostReadings
 head-le r h [] c = omega arith
 head-le r h (j ∷ js) c = omega (arith, c .0, c .2)
 

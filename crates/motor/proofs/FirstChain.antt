@@ -10,6 +10,7 @@ use lib.Seq.{ext-getD}
 use borrow.Author.Tests.{ne-eqb}
 use Rattle.motor.specs.declared.readings.Reading.{Reading}
 use Rattle.motor.specs.declared.readings.Readings.{Readings}
+use Rattle.motor.specs.Limits.{mostReadings, mostRecords}
 use Rattle.motor.specs.Readings.{run, atFirst, freeRecord, recAt, nextAt, Chain, times, unused, Rep, firstRecord, emptyReadings}
 use Rattle.motor.proofs.Times.{length-run, run-once}
 use Rattle.motor.proofs.Chains.{entryIn, set-same, set-other}
@@ -24,22 +25,22 @@ getD-run (suc n) s (suc k) h =
     let e : suc s + k ≡ s + suc k = omega arith in
     getD-run n (suc s) k (omega arith) ∙ ap firstRecord e
 
-first-at : (k : ℕ) → k < 97 → recAt (emptyReadings .records) k ≡ firstRecord k
-first-at k h = let e : 0 + k ≡ k = omega arith in getD-run 97 0 k h ∙ ap firstRecord e
+first-at : (k : ℕ) → k < mostRecords → recAt (emptyReadings .records) k ≡ firstRecord k
+first-at k h = let e : 0 + k ≡ k = omega arith in getD-run mostRecords 0 k h ∙ ap firstRecord e
 
-first-size : length (emptyReadings .records) ≡ 97
-first-size = length-map (run 97 0) firstRecord ∙ length-run 97 0
+first-size : length (emptyReadings .records) ≡ mostRecords
+first-size = length-map (run mostRecords 0) firstRecord ∙ length-run mostRecords 0
 
-first-next : (k : ℕ) → 1 ≤ k → k < 96 → firstRecord k ≡ freeRecord (k + 1)
-first-next k a b = rw (ne-eqb k 0 (λ e. omega arith), ne-eqb k 96 (λ e. omega arith))
+first-next : (k : ℕ) → 1 ≤ k → k < mostReadings → firstRecord k ≡ freeRecord (k + 1)
+first-next k a b = rw (ne-eqb k 0 (λ e. omega arith), ne-eqb k mostReadings (λ e. omega arith))
 
 -- ---- they are good
 
-chain-run : (r : List Reading) → ((k : ℕ) → k < 97 → recAt r k ≡ firstRecord k) → (n s : ℕ) → 1 ≤ s → s + suc n ≡ 97 → Chain r s (map unused (run (suc n) s))
+chain-run : (r : List Reading) → ((k : ℕ) → k < mostRecords → recAt r k ≡ firstRecord k) → (n s : ℕ) → 1 ≤ s → s + suc n ≡ mostRecords → Chain r s (map unused (run (suc n) s))
 unfolding run
 chain-run r f zero s l e =
-    let p : s ≡ 96 = omega arith in
-    (refl, l, omega arith, ap entryIn (f s (omega arith)), ap (nextAt r) p ∙ ap (λ (t : Reading). t .next) (f 96 (omega arith)))
+    let p : s ≡ mostReadings = omega arith in
+    (refl, l, omega arith, ap entryIn (f s (omega arith)), ap (nextAt r) p ∙ ap (λ (t : Reading). t .next) (f mostReadings (omega arith)))
 chain-run r f (suc n) s l e =
     let q : nextAt r s ≡ suc s = ap (λ (t : Reading). t .next) (f s (omega arith) ∙ first-next s l (omega arith)) ∙ add-one s in
     (refl, l, omega arith, ap entryIn (f s (omega arith)), rw q (chain-run r f n (suc s) (omega arith) (omega arith)))
@@ -52,16 +53,16 @@ empty-rep =
       head = ap entryIn (first-at 0 (omega arith));
       held-chain = ap (λ (t : Reading). t .next) (first-at 0 (omega arith));
       free-chain = chain-run (emptyReadings .records) first-at 95 1 (omega arith) (omega arith);
-      once = λ k a b. omega (arith, run-once k 96 1 a (omega arith));
+      once = λ k a b. omega (arith, run-once k mostReadings 1 a (omega arith));
       rising = tt;
     }
 
 -- ---- the loop: records 1 to i - 1 lead on
 
 pub record Begun (r : List Reading) (i : ℕ) : Type 0 where
-  pub size : length r ≡ 97
+  pub size : length r ≡ mostRecords
   pub low : 1 ≤ i
-  pub high : i ≤ 96
+  pub high : i ≤ mostReadings
   pub head : recAt r 0 ≡ freeRecord 0
   pub done : (k : ℕ) → 1 ≤ k → k < i → recAt r k ≡ freeRecord (k + 1)
   pub rest : (k : ℕ) → i ≤ k → recAt r k ≡ freeRecord 0
@@ -71,7 +72,7 @@ all-same x zero k = refl
 all-same x (suc n) zero = refl
 all-same x (suc n) (suc k) = all-same x n k
 
-pub begin : (x : Reading) → x ≡ freeRecord 0 → Begun (replicate 97 x) 1
+pub begin : (x : Reading) → x ≡ freeRecord 0 → Begun (replicate mostRecords x) 1
 begin x e =
     rw e
     record {
@@ -80,10 +81,10 @@ begin x e =
       high = omega arith;
       head = refl;
       done = λ k a b. absurd (omega arith);
-      rest = λ k a. all-same (freeRecord 0) 97 k;
+      rest = λ k a. all-same (freeRecord 0) mostRecords k;
     }
 
-pub begin-more : (r : List Reading) (i : ℕ) (y : Reading) → Begun r i → i < 96 → y ≡ freeRecord (i + 1) → Begun (set r i y) (i + 1)
+pub begin-more : (r : List Reading) (i : ℕ) (y : Reading) → Begun r i → i < mostReadings → y ≡ freeRecord (i + 1) → Begun (set r i y) (i + 1)
 begin-more r i y x h e =
     record {
       size = length-set r i y ∙ x .size;
@@ -98,20 +99,20 @@ begin-more r i y x h e =
     go k a b (yes p) = rw p (set-same r i y (omega (arith, x .size)) ∙ e)
     go k a b (no n) = set-other r i y k n ∙ x .done k a (omega (arith, n))
 
-begun : (r : List Reading) (i : ℕ) → Begun r i → 96 ≤ i → r ≡ emptyReadings .records
+begun : (r : List Reading) (i : ℕ) → Begun r i → mostReadings ≤ i → r ≡ emptyReadings .records
 begun r i x l =
     ext-getD (freeRecord 0) r (emptyReadings .records) (x .size ∙ sym first-size)
-    (λ k h. let m : k < 97 = omega (arith, x .size) in go k m (ℕ-discrete k 0) (ℕ-discrete k 96) ∙ sym (first-at k m))
+    (λ k h. let m : k < mostRecords = omega (arith, x .size) in go k m (ℕ-discrete k 0) (ℕ-discrete k mostReadings) ∙ sym (first-at k m))
   where
-    go : (k : ℕ) → k < 97 → Dec (k ≡ 0) → Dec (k ≡ 96) → recAt r k ≡ firstRecord k
+    go : (k : ℕ) → k < mostRecords → Dec (k ≡ 0) → Dec (k ≡ mostReadings) → recAt r k ≡ firstRecord k
     go k m (yes p) d = rw p (x .head)
-    go k m (no n) (yes p) = rw p (x .rest 96 (x .high))
+    go k m (no n) (yes p) = rw p (x .rest mostReadings (x .high))
     go k m (no n) (no d) =
         let a : 1 ≤ k = omega (arith, n) in
-        let b : k < 96 = omega (arith, d) in
+        let b : k < mostReadings = omega (arith, d) in
         x .done k a (omega arith) ∙ sym (first-next k a b)
 
-pub empty-both : (r : List Reading) (i : ℕ) → Begun r i → 96 ≤ i
+pub empty-both : (r : List Reading) (i : ℕ) → Begun r i → mostReadings ≤ i
     → (_≡_ {A = Readings} (record { records = r; free = 1 }) emptyReadings) × Rep (record { records = r; free = 1 }) atFirst
 empty-both r i x l =
     let e = begun r i x l in

@@ -29,6 +29,7 @@ use Rattle.motor.specs.declared.engine.node.Pinged.{Pinged}
 use Rattle.motor.specs.declared.engine.node.Pinged.the-variants as pinged
 use Rattle.motor.specs.declared.engine.node.Wait.{Wait}
 use Rattle.motor.specs.declared.engine.node.Wait.the-variants as wait
+use Rattle.motor.specs.Limits.{mostDueSteps, mostFrames}
 use Rattle.motor.specs.Bounds.{limitOf}
 use Rattle.motor.specs.engine.Operations.{begins, okOf, lostOf, gotOf, lostGot, pingedOf, goneOf}
 use Rattle.motor.specs.engine.Script.{signedIn, floatIn, asFlag, asSigned, asFloat, modeOr17, modeIn, stopIn, absOf, usable, limit, tryIn, firstRead, backRead, isMode, ensureOk, ensureLost}
@@ -168,7 +169,7 @@ module _ (f d : ℕ) where
 
 -- at most the limit's frames and 40 due steps, the limit at most 32
 abbrev Begins : ℕ → Node → Type 0
-Begins m n = (nodeLeft 1 0 n ≤ m) × (m ≤ 32) × (nodeLeft 0 1 n ≤ 40) × Paced n
+Begins m n = (nodeLeft 1 0 n ≤ m) × (m ≤ mostFrames) × (nodeLeft 0 1 n ≤ mostDueSteps) × Paced n
 
 pub begin-fits : (c : Command) → Begins (limitOf c) (begins c)
 begin-fits (command.Ping timeout) = (omega arith, omega arith, omega arith, window-small timeout 120 (omega arith))

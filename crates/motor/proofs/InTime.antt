@@ -12,6 +12,7 @@ use Rattle.codec.specs.declared.error.Refusal.{Refusal}
 use Rattle.codec.specs.declared.error.Refusal.the-variants as refusal
 use Rattle.motor.specs.declared.engine.command.Command.{Command}
 use Rattle.motor.specs.declared.engine.operation.Phase.{Phase}
+use Rattle.motor.specs.Limits.{latestTime, longestTimeout}
 use Rattle.motor.specs.Calls.{isIdle, timeoutOf, orElse, admittedOf, arguedOf, startSaid, stepSaid}
 use Rattle.motor.proofs.engine.Choices.{cond-no}
 use Rattle.motor.specs.declared.engine.operation.Move.{Move}
@@ -24,9 +25,9 @@ first-false : (b : Bool) (r : Refusal) (tests : List (Bool × Refusal)) → firs
 first-false true r tests e = let z : _≡_ {A = ℕ} 0 1 = cc in absurd (omega arith)
 first-false false r tests e = refl
 
-not-late : (clock now : ℕ) → late clock now ≡ false → now ≤ 1000000000000000
+not-late : (clock now : ℕ) → late clock now ≡ false → now ≤ latestTime
 unfolding late
-not-late clock now e = ltb-false 1000000000000000 now (second (ltb now clock) (ltb 1000000000000000 now) e)
+not-late clock now e = ltb-false latestTime now (second (ltb now clock) (ltb latestTime now) e)
   where
     second : (a b : Bool) → (a || b) ≡ false → b ≡ false
     second true b p = absurd (true≢false p)
@@ -36,12 +37,12 @@ admitted-passed : (a b : Checked) → orElse a b ≡ checked.Passed → a ≡ ch
 admitted-passed checked.Passed b e = refl
 admitted-passed (checked.Refused r) b e = e
 
-pub start-in-time : (clock : ℕ) (p : Phase) (c : Command) (now : ℕ) → startSaid clock p c now ≡ checked.Passed → now ≤ 1000000000000000
-start-in-time clock p c now e = not-late clock now (first-false (late clock now) _ ((not (isIdle p), refusal.OperationRunning) ∷ (ltb 60000 (timeoutOf c), refusal.TimeoutTooLong) ∷ []) (admitted-passed (admittedOf clock p c now) (arguedOf c) e))
+pub start-in-time : (clock : ℕ) (p : Phase) (c : Command) (now : ℕ) → startSaid clock p c now ≡ checked.Passed → now ≤ latestTime
+start-in-time clock p c now e = not-late clock now (first-false (late clock now) _ ((not (isIdle p), refusal.OperationRunning) ∷ (ltb longestTimeout (timeoutOf c), refusal.TimeoutTooLong) ∷ []) (admitted-passed (admittedOf clock p c now) (arguedOf c) e))
 
-pub step-in-time : (clock : ℕ) (p : Phase) (now : ℕ) → stepSaid clock p now ≡ checked.Passed → now ≤ 1000000000000000
+pub step-in-time : (clock : ℕ) (p : Phase) (now : ℕ) → stepSaid clock p now ≡ checked.Passed → now ≤ latestTime
 step-in-time clock p now e = not-late clock now (first-false (late clock now) _ ((isIdle p, refusal.NothingRunning) ∷ []) e)
 
 -- a move in time is made
-pub made : (now : ℕ) (v : Move) → now ≤ 1000000000000000 → inTime now v ≡ v
-made now v h = cond-no tooLate v (le-ltb 1000000000000000 now h)
+pub made : (now : ℕ) (v : Move) → now ≤ latestTime → inTime now v ≡ v
+made now v h = cond-no tooLate v (le-ltb latestTime now h)

@@ -1,3 +1,4 @@
+pub mod LimitsTied
 pub mod Times
 pub mod Entries
 pub mod Lookups

@@ -7,6 +7,7 @@ use lib.ListN.{length, set, length-append, length-map}
 use Rattle.motor.specs.declared.engine.reading.Stored.{Stored}
 use Rattle.motor.specs.declared.readings.Reading.{Reading}
 use Rattle.motor.specs.declared.readings.Readings.{Readings}
+use Rattle.motor.specs.Limits.{mostReadings}
 use Rattle.motor.specs.Readings.{entry, Rising, Numbered, numbers, entries, Lists, reading, freeRecord, recAt, nextAt, Chain, times, unused, Rep, linkedAt, unlinkedAt, replacedAt}
 use Rattle.motor.proofs.Times.{UpTo, times-here, times-other, times-more, times-append, times-move, in-range, zero-none, upto-append, full-length, not-first}
 use Rattle.motor.proofs.Chains.{Not, last, last-in, chain-upto, free-upto, numbers-unused, Differ, stored-differ, set-same, set-other, entryIn, relinked, relinked-differ, relinked-first, relinked-next, away, joined}
@@ -16,52 +17,52 @@ abbrev pub lists : List Numbered → List ℕ → Lists
 lists held free = record { held = held; free = free }
 
 -- the numbers in use are of 1 to 96
-pub all-upto : (rs : Readings) (held : List Numbered) (free : List ℕ) → Rep rs (lists held free) → UpTo 96 (numbers held ++ free)
+pub all-upto : (rs : Readings) (held : List Numbered) (free : List ℕ) → Rep rs (lists held free) → UpTo mostReadings (numbers held ++ free)
 all-upto rs held free x =
-    upto-append 96 (numbers held) free (chain-upto (rs .records) (nextAt (rs .records) 0) held (x .held-chain))
+    upto-append mostReadings (numbers held) free (chain-upto (rs .records) (nextAt (rs .records) 0) held (x .held-chain))
     (free-upto (rs .records) (rs .free) free (x .free-chain))
 
 -- 96 records, held and free together
-pub all-records : (rs : Readings) (held : List Numbered) (free : List ℕ) → Rep rs (lists held free) → length held + length free ≡ 96
+pub all-records : (rs : Readings) (held : List Numbered) (free : List ℕ) → Rep rs (lists held free) → length held + length free ≡ mostReadings
 all-records rs held free x =
-    let n = full-length 96 (numbers held ++ free) (all-upto rs held free x) (λ k a b. times-append k (numbers held) free ∙ x .once k a b) in
+    let n = full-length mostReadings (numbers held ++ free) (all-upto rs held free x) (λ k a b. times-append k (numbers held) free ∙ x .once k a b) in
     omega (arith, n, length-append (numbers held) free, length-map held (λ (h : Numbered). h .0))
 
-pub all-entries : (rs : Readings) (held : List Numbered) (free : List ℕ) → Rep rs (lists held free) → length (entries held) + length free ≡ 96
+pub all-entries : (rs : Readings) (held : List Numbered) (free : List ℕ) → Rep rs (lists held free) → length (entries held) + length free ≡ mostReadings
 all-entries rs held free x = omega (arith, all-records rs held free x, length-map held (λ (h : Numbered). h .1))
 
 -- record q, the last of ps, stands in none of what follows
 pub record Behind (q : ℕ) (ps bs : List Numbered) (fs : List ℕ) : Type 0 where
-  pub fits : q ≤ 96
+  pub fits : q ≤ mostReadings
   pub itself : times q (0 ∷ numbers ps) ≤ 1
   pub held : times q (numbers bs) ≡ 0
   pub free : times q fs ≡ 0
 
 module _ (rs : Readings) (id q : ℕ) (ps bs : List Numbered) (fs : List ℕ) (x : Rep rs (lists (ps ++ bs) fs)) (s : Split (rs .records) id 0 q ps bs) where
-  counted : (k : ℕ) → 1 ≤ k → k ≤ 96 → times k (numbers ps) + times k (numbers bs) + times k fs ≡ 1
+  counted : (k : ℕ) → 1 ≤ k → k ≤ mostReadings → times k (numbers ps) + times k (numbers bs) + times k fs ≡ 1
   counted k a b =
       let e : times k (numbers (ps ++ bs)) ≡ times k (numbers ps) + times k (numbers bs) =
       ap (times k) (map-append (λ (h : Numbered). h .0) ps bs) ∙ times-append k (numbers ps) (numbers bs) in
       omega (arith, e, x .once k a b)
 
-  back-upto : UpTo 96 (numbers bs)
+  back-upto : UpTo mostReadings (numbers bs)
   back-upto = chain-upto (rs .records) (nextAt (rs .records) q) bs (s .rest)
 
-  unused-upto : UpTo 96 fs
+  unused-upto : UpTo mostReadings fs
   unused-upto = free-upto (rs .records) (rs .free) fs (x .free-chain)
 
   behind : Behind q ps bs fs
   behind = go ps (chain-upto (rs .records) (nextAt (rs .records) 0) (ps ++ bs) (x .held-chain)) (s .at) (counted)
     where
-      go : (ps : List Numbered) → UpTo 96 (numbers (ps ++ bs)) → last 0 ps ≡ q
-          → ((k : ℕ) → 1 ≤ k → k ≤ 96 → times k (numbers ps) + times k (numbers bs) + times k fs ≡ 1) → Behind q ps bs fs
+      go : (ps : List Numbered) → UpTo mostReadings (numbers (ps ++ bs)) → last 0 ps ≡ q
+          → ((k : ℕ) → 1 ≤ k → k ≤ mostReadings → times k (numbers ps) + times k (numbers bs) + times k fs ≡ 1) → Behind q ps bs fs
       go [] u e n =
           rw (← e)
-          record { fits = omega arith; itself = omega (arith, times-here 0 [], zero-none 96 [] tt); held = zero-none 96 (numbers bs) back-upto; free = zero-none 96 fs unused-upto }
+          record { fits = omega arith; itself = omega (arith, times-here 0 [], zero-none mostReadings [] tt); held = zero-none mostReadings (numbers bs) back-upto; free = zero-none mostReadings fs unused-upto }
       go (j ∷ ps) u e n =
           let m : 0 < times q (numbers (j ∷ ps)) = rw e at (last-in ps (j .0)) in
           let t = ap (times q) (map-append (λ (h : Numbered). h .0) (j ∷ ps) bs) ∙ times-append q (numbers (j ∷ ps)) (numbers bs) in
-          let i = in-range 96 q (numbers ((j ∷ ps) ++ bs)) u (omega (arith, t, m)) in
+          let i = in-range mostReadings q (numbers ((j ∷ ps) ++ bs)) u (omega (arith, t, m)) in
           let o = n q (i .0) (i .1) in
           record { fits = i .1; itself = omega (arith, o, times-other q 0 (numbers (j ∷ ps)) (λ w. omega (arith, i .0))); held = omega (arith, o, m); free = omega (arith, o, m) }
 

@@ -23,6 +23,7 @@ use Rattle.motor.specs.declared.engine.node.Pinged.{Pinged}
 use Rattle.motor.specs.declared.engine.node.Pinged.the-variants as pinged
 use Rattle.motor.specs.declared.engine.node.Wait.{Wait}
 use Rattle.motor.specs.declared.engine.node.Wait.the-variants as wait
+use Rattle.motor.specs.Limits.{longestTimeout}
 use Rattle.motor.specs.engine.Script.{windowOf}
 
 -- what holds of each side of a choice, where the test comes out so, holds of the choice
@@ -44,18 +45,18 @@ Paced (node.Finish r) = Unit {0}
 Paced node.Report = Unit {0}
 Paced node.ClearFault = Unit {0}
 Paced (node.Fail r) = Unit {0}
-Paced (node.Pause e k) = (0 < e) × (e ≤ 60000)
+Paced (node.Pause e k) = (0 < e) × (e ≤ longestTimeout)
 Paced (node.Last r) = Unit {0}
 Paced (node.Write id v k) = Unit {0}
-Paced (node.Await w window whom) = window ≤ 60000
+Paced (node.Await w window whom) = window ≤ longestTimeout
 Paced (node.Motion p v kp kd t r) = Unit {0}
 Paced (node.Rename new) = Unit {0}
 
 -- a window is at most 60,000
-pub window-small : (timeout least : ℕ) → least ≤ 60000 → windowOf timeout least ≤ 60000
+pub window-small : (timeout least : ℕ) → least ≤ longestTimeout → windowOf timeout least ≤ longestTimeout
 window-small timeout least h =
-    by-test (λ t w. w ≤ 60000) (ltb timeout least) (λ e. h)
-    (λ e. by-test (λ t w. w ≤ 60000) (ltb 60000 timeout) (λ e. omega arith) (λ e. ltb-false 60000 timeout e))
+    by-test (λ t w. w ≤ longestTimeout) (ltb timeout least) (λ e. h)
+    (λ e. by-test (λ t w. w ≤ longestTimeout) (ltb longestTimeout timeout) (λ e. omega arith) (λ e. ltb-false longestTimeout timeout e))
 
 module _ (f d : ℕ) where
   -- four attempts, each with its window's end

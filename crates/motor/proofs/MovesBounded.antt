@@ -32,6 +32,7 @@ use Rattle.motor.specs.declared.engine.node.Wait.{Wait}
 use Rattle.motor.specs.declared.engine.node.Wait.the-variants as wait
 use Rattle.motor.specs.declared.engine.reading.Found.{Found}
 use Rattle.motor.specs.declared.engine.reading.Found.the-variants as found
+use Rattle.motor.specs.Limits.{longestTimeout}
 use Rattle.motor.specs.Bounds.{hasFrame, GivenWithin}
 use Rattle.motor.specs.engine.Hosts.{candidatesOf, nextHost}
 use Rattle.motor.specs.engine.Operations.{okOf, gotOf, pingedOf, goneOf}
@@ -64,7 +65,7 @@ next-less f d own (hosts.Named h) i = tt
 -- ---- moves
 
 -- a frame weighs f, a due step d; due times lie at most this far from now
-module _ (f d most now : ℕ) (far : 60000 ≤ most) where
+module _ (f d most now : ℕ) (far : longestTimeout ≤ most) where
   -- what is left after a move and its frame is at most m
   pub record Moved (m : ℕ) (v : Move) : Type 0 where
     pub paid : opLeft f d (v .operation) + cond (hasFrame (v .said)) f 0 ≤ m

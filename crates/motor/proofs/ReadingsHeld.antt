@@ -12,6 +12,7 @@ use Rattle.motor.specs.declared.engine.reading.Stored.{Stored}
 use Rattle.motor.specs.declared.readings.Readings.{Readings}
 use Rattle.motor.specs.declared.readings.Entry.{Entry}
 use Rattle.motor.specs.declared.readings.PutAnswer.the-variants.{Kept, Full}
+use Rattle.motor.specs.Limits.{mostReadings}
 use Rattle.motor.specs.Readings.{holds, lookup, insert, remove, room, Rising, Numbered, entries, Lists, atFirst, recordOf, placeIn, takeOut, newIn, putIn, dropIn, noEntry, Rep, Holds, Puts, listing, emptyReadings, findOf, putOf, dropOf, listingOf}
 use Rattle.motor.proofs.Entries.{remove-none, entries-placed, entries-taken}
 use Rattle.motor.proofs.Links.{all-entries}
@@ -28,17 +29,17 @@ entries-drop id ls = go (holds id (entries (ls .held))) refl
     go true e = entries-taken id (ls .held)
     go false e = sym (remove-none id (entries (ls .held)) e)
 
-new-entries : (id : ℕ) (s : Stored) (held : List Numbered) (free : List ℕ) → length (entries held) + length free ≡ 96
-    → entries (newIn id s held free .held) ≡ cond (ltb (length (entries held)) 96) (insert id s (entries held)) (entries held)
-new-entries id s held [] n = rw (le-ltb (length (entries held)) 96 (omega arith))
-new-entries id s held (f ∷ fs) n = rw (lt-ltb (length (entries held)) 96 (omega arith)) (entries-placed f id s held)
+new-entries : (id : ℕ) (s : Stored) (held : List Numbered) (free : List ℕ) → length (entries held) + length free ≡ mostReadings
+    → entries (newIn id s held free .held) ≡ cond (ltb (length (entries held)) mostReadings) (insert id s (entries held)) (entries held)
+new-entries id s held [] n = rw (le-ltb (length (entries held)) mostReadings (omega arith))
+new-entries id s held (f ∷ fs) n = rw (lt-ltb (length (entries held)) mostReadings (omega arith)) (entries-placed f id s held)
 
 pub entries-put : (rs : Readings) (ls : Lists) → Rep rs ls → (id : ℕ) (s : Stored)
     → entries (putIn id s ls .held) ≡ cond (room id (entries (ls .held))) (insert id s (entries (ls .held))) (entries (ls .held))
 entries-put rs ls x id s = go (holds id (entries (ls .held)))
   where
     go : (b : Bool) → entries (cond b (record { held = placeIn 0 id s (ls .held); free = ls .free }) (newIn id s (ls .held) (ls .free)) .held)
-        ≡ cond (cond b true (ltb (length (entries (ls .held))) 96)) (insert id s (entries (ls .held))) (entries (ls .held))
+        ≡ cond (cond b true (ltb (length (entries (ls .held))) mostReadings)) (insert id s (entries (ls .held))) (entries (ls .held))
     go true = entries-placed 0 id s (ls .held)
     go false = new-entries id s (ls .held) (ls .free) (all-entries rs (ls .held) (ls .free) x)
 
@@ -51,7 +52,7 @@ module _ (rs : Readings) (l : List Entry) (x : Holds rs l) where
   pub held-rising : Rising l
   held-rising = subst Rising (x .same) (x .rep .rising)
 
-  pub held-most : length l ≤ 96
+  pub held-most : length l ≤ mostReadings
   held-most = omega (arith, all-entries rs (x .lists .held) (x .lists .free) (x .rep), ap length (x .same))
 
   pub find-holds : (id : ℕ) → findOf rs id ≡ lookup id l
@@ -85,7 +86,7 @@ module _ (rs : Readings) (l : List Entry) (x : Holds rs l) where
 
 -- a listing loses nothing
 pub listing-all : (l : List Entry) → take (listing l .count) (listing l .entries) ≡ l
-listing-all l = take-append-seam l (replicate (96 - length l) noEntry)
+listing-all l = take-append-seam l (replicate (mostReadings - length l) noEntry)
 
 -- rs holds one list only
 pub held-one : (rs : Readings) (l m : List Entry) → Holds rs l → Holds rs m → l ≡ m

@@ -12,6 +12,7 @@ use Rattle.motor.specs.declared.readings.Reading.{Reading}
 use Rattle.motor.specs.declared.readings.Readings.{Readings}
 use Rattle.motor.specs.declared.readings.Entry.{Entry}
 use Rattle.motor.specs.declared.engine.reading.Found.the-variants.{Held}
+use Rattle.motor.specs.Limits.{mostReadings}
 use Rattle.motor.specs.Readings.{entry, holds, lookup, Rising, Numbered, entries, Lists, recordOf, placeIn, takeOut, dropIn, noStored, nextAt, Chain, Rep, Puts, placeOf, holderAt, holderOf, foundAt, findOf, addAt, putAt, putOf, dropAt, dropOf, walk}
 use Rattle.motor.proofs.Entries.{never, holds-first, lookup-none, record-none, insert-rising, remove-rising, rising-back, entries-placed, entries-taken, holds-skip, lookup-skip, record-skip, take-skip, place-skip}
 use Rattle.motor.proofs.Search.{Stops, Split, seek-place, walk-chain}
@@ -27,7 +28,7 @@ module _ (r : List Reading) (id q : ℕ) where
   holder-first : (b : Numbered) (bs : List Numbered) → Chain r (nextAt r q) (b ∷ bs) → holderAt r id q ≡ cond (eqb (b .1 .id) id) (b .0) 0
   unfolding holderAt
   holder-first b bs c =
-      rw (c .0, ne-eqb (b .0) 0 (λ e. omega (arith, c .1)), le-ltb 96 (b .0) (c .2), ap (λ (e : Entry). e .id) (c .3))
+      rw (c .0, ne-eqb (b .0) 0 (λ e. omega (arith, c .1)), le-ltb mostReadings (b .0) (c .2), ap (λ (e : Entry). e .id) (c .3))
 
 place-new : (n id : ℕ) (s : Stored) (bs : List Numbered) → Stops id bs → holds id (entries bs) ≡ false → placeIn n id s bs ≡ (n, entry id s) ∷ bs
 place-new n id s [] h e = refl
@@ -50,7 +51,7 @@ module _ (rs : Readings) (held : List Numbered) (free : List ℕ) (x : Rep rs (l
       → Rep rs (lists (ps ++ (b ∷ bs)) free) → At rs id ps (b ∷ bs) → b .1 .id ≡ id → P (ps ++ (b ∷ bs)) (b .0))
       → P held (holderOf rs id)
   by-place P new old =
-      let p = seek-place (rs .records) id 96 held 0 (omega (arith, all-records rs held free x)) (x .held-chain) in
+      let p = seek-place (rs .records) id mostReadings held 0 (omega (arith, all-records rs held free x)) (x .held-chain) in
       subst (λ (t : List Numbered). P t (holderOf rs id)) (p .whole)
       (go (p .front) (p .back) (subst (λ (t : List Numbered). Rep rs (lists t free)) (sym (p .whole)) x) (p .split))
     where
@@ -105,14 +106,14 @@ module _ (rs : Readings) (held : List Numbered) (free : List ℕ) (x : Rep rs (l
     unfolding addAt
     add-rep ps bs [] y s h =
         let k = holds-skip id ps bs (s .low) ∙ h in
-        let m : ltb (length (entries (ps ++ bs))) 96 ≡ false = le-ltb (length (entries (ps ++ bs))) 96 (omega (arith, all-entries rs (ps ++ bs) [] y)) in
+        let m : ltb (length (entries (ps ++ bs))) mostReadings ≡ false = le-ltb (length (entries (ps ++ bs))) mostReadings (omega (arith, all-entries rs (ps ++ bs) [] y)) in
         rw (eq-eqb (rs .free) 0 (y .free-chain)) record { said = rw (k, m); rep = rw k y; full = λ z. refl }
     add-rep ps bs (f ∷ fs) y s h =
         let k = holds-skip id ps bs (s .low) ∙ h in
         let c = y .free-chain in
-        let m : ltb (length (entries (ps ++ bs))) 96 ≡ true = lt-ltb (length (entries (ps ++ bs))) 96 (omega (arith, all-entries rs (ps ++ bs) (f ∷ fs) y)) in
+        let m : ltb (length (entries (ps ++ bs))) mostReadings ≡ true = lt-ltb (length (entries (ps ++ bs))) mostReadings (omega (arith, all-entries rs (ps ++ bs) (f ∷ fs) y)) in
         let w = place-skip id f v ps bs (s .low) ∙ ap (λ (t : List Numbered). ps ++ t) (place-new f id v bs (s .high) h) in
-        rw (c .0, ne-eqb f 0 (λ z. omega (arith, c .1, z)), le-ltb 96 f (c .2))
+        rw (c .0, ne-eqb f 0 (λ z. omega (arith, c .1, z)), le-ltb mostReadings f (c .2))
         record {
           said = rw (k, m);
           rep = rw k (linked rs id v (placeOf rs id) ps bs f fs y s (placeIn f id v (ps ++ bs)) (sym w) (placed-rising f (ps ++ bs) (y .rising)));
@@ -135,6 +136,6 @@ module _ (rs : Readings) (held : List Numbered) (free : List ℕ) (x : Rep rs (l
           full = λ z. never (rw k at z);
         })
 
-pub walk-rep : (rs : Readings) (ls : Lists) → Rep rs ls → walk 96 (rs .records) (nextAt (rs .records) 0) ≡ entries (ls .held)
+pub walk-rep : (rs : Readings) (ls : Lists) → Rep rs ls → walk mostReadings (rs .records) (nextAt (rs .records) 0) ≡ entries (ls .held)
 walk-rep rs ls x =
-    walk-chain (rs .records) 96 (nextAt (rs .records) 0) (ls .held) (omega (arith, all-records rs (ls .held) (ls .free) x)) (x .held-chain)
+    walk-chain (rs .records) mostReadings (nextAt (rs .records) 0) (ls .held) (omega (arith, all-records rs (ls .held) (ls .free) x)) (x .held-chain)

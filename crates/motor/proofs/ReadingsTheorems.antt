@@ -7,6 +7,7 @@ use native.Mathlib.Omega.{arith}
 use lib.ListN.{length, getD}
 use Rattle.motor.specs.declared.engine.reading.Stored.{Stored}
 use Rattle.motor.specs.declared.readings.Readings.{Readings}
+use Rattle.motor.specs.Limits.{mostReadings}
 use Rattle.motor.specs.Readings.{holds, numbers, entries, Lists, recordOf, takeOut, putIn, dropIn, noEntry, times, unused, Rep, holderOf, putOf, dropOf}
 use Rattle.motor.proofs.Times.{in-range, times-append}
 use Rattle.motor.proofs.Entries.{rising-at, record-placed}
@@ -20,13 +21,13 @@ module _ (rs : Readings) (ls : Lists) (x : Rep rs ls) where
   rising = rising-at (entries (ls .held)) (x .rising)
 
   -- each of 1 to 96 stands in one of the two chains, and there once
-  pub one-chain : (k : ℕ) → 1 ≤ k → k ≤ 96 → times k (numbers (ls .held)) + times k (ls .free) ≡ 1
+  pub one-chain : (k : ℕ) → 1 ≤ k → k ≤ mostReadings → times k (numbers (ls .held)) + times k (ls .free) ≡ 1
   one-chain = x .once
 
   -- and no other number stands in either
-  pub no-other : (k : ℕ) → 0 < times k (numbers (ls .held)) + times k (ls .free) → (1 ≤ k) × (k ≤ 96)
+  pub no-other : (k : ℕ) → 0 < times k (numbers (ls .held)) + times k (ls .free) → (1 ≤ k) × (k ≤ mostReadings)
   no-other k h =
-      in-range 96 k (numbers (ls .held) ++ ls .free)
+      in-range mostReadings k (numbers (ls .held) ++ ls .free)
       (all-upto rs (ls .held) (ls .free) x)
       (omega (arith, times-append k (numbers (ls .held)) (ls .free)))
 

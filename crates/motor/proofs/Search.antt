@@ -9,6 +9,7 @@ use lib.ListN.{length}
 use borrow.Author.Tests.{lt-ltb, le-ltb, ne-eqb, eq-eqb, ltb-true, ltb-false}
 use Rattle.motor.specs.declared.readings.Reading.{Reading}
 use Rattle.motor.specs.declared.readings.Entry.{Entry}
+use Rattle.motor.specs.Limits.{mostReadings}
 use Rattle.motor.specs.Readings.{Numbered, entries, nextAt, idAt, Chain, before, seekFrom, walk}
 use Rattle.motor.proofs.Entries.{Below}
 use Rattle.motor.proofs.Chains.{last}
@@ -25,16 +26,16 @@ module _ (r : List Reading) (id : ℕ) where
   unfolding seekFrom
   seek-on k p e = rw e
 
-  before-in : (n : ℕ) → (n ≡ 0 → ⊥) → n ≤ 96 → before r id n ≡ ltb (idAt r n) id
-  before-in n a b = rw (ne-eqb n 0 a, le-ltb 96 n b)
+  before-in : (n : ℕ) → (n ≡ 0 → ⊥) → n ≤ mostReadings → before r id n ≡ ltb (idAt r n) id
+  before-in n a b = rw (ne-eqb n 0 a, le-ltb mostReadings n b)
 
   pub stop-zero : (k p : ℕ) → nextAt r p ≡ 0 → seekFrom k r id p ≡ p
   stop-zero k p e = seek-stop k p (ap (before r id) e)
 
-  pub stop-out : (k p : ℕ) → 96 < nextAt r p → seekFrom k r id p ≡ p
-  stop-out k p h = seek-stop k p (rw (ne-eqb (nextAt r p) 0 (λ e. omega (arith, h)), lt-ltb 96 (nextAt r p) h))
+  pub stop-out : (k p : ℕ) → mostReadings < nextAt r p → seekFrom k r id p ≡ p
+  stop-out k p h = seek-stop k p (rw (ne-eqb (nextAt r p) 0 (λ e. omega (arith, h)), lt-ltb mostReadings (nextAt r p) h))
 
-  pub stop-id : (k p : ℕ) → (nextAt r p ≡ 0 → ⊥) → nextAt r p ≤ 96 → id ≤ idAt r (nextAt r p) → seekFrom k r id p ≡ p
+  pub stop-id : (k p : ℕ) → (nextAt r p ≡ 0 → ⊥) → nextAt r p ≤ mostReadings → id ≤ idAt r (nextAt r p) → seekFrom k r id p ≡ p
   stop-id k p a b h = seek-stop k p (before-in (nextAt r p) a b ∙ le-ltb (idAt r (nextAt r p)) id h)
 
   pub stop-none : (k p : ℕ) → k ≡ 0 → seekFrom k r id p ≡ p
@@ -42,7 +43,7 @@ module _ (r : List Reading) (id : ℕ) where
   stop-none zero p e = refl
   stop-none (suc k) p e = absurd (omega arith)
 
-  pub step-on : (k p : ℕ) → 0 < k → (nextAt r p ≡ 0 → ⊥) → nextAt r p ≤ 96 → idAt r (nextAt r p) < id
+  pub step-on : (k p : ℕ) → 0 < k → (nextAt r p ≡ 0 → ⊥) → nextAt r p ≤ mostReadings → idAt r (nextAt r p) < id
       → seekFrom (k - 1) r id (nextAt r p) ≡ seekFrom k r id p
   step-on zero p l a b h = absurd (omega arith)
   step-on (suc k) p l a b h =
@@ -107,4 +108,4 @@ walk-chain r zero h [] m c = refl
 walk-chain r (suc k) h [] m c = rw (eq-eqb h 0 c)
 walk-chain r zero h (j ∷ js) m c = absurd (omega arith)
 walk-chain r (suc k) h (j ∷ js) m c =
-    rw (c .0, ne-eqb (j .0) 0 (λ e. omega (arith, c .1)), le-ltb 96 (j .0) (c .2), c .3, walk-chain r k (nextAt r (j .0)) js (omega arith) (c .4))
+    rw (c .0, ne-eqb (j .0) 0 (λ e. omega (arith, c .1)), le-ltb mostReadings (j .0) (c .2), c .3, walk-chain r k (nextAt r (j .0)) js (omega arith) (c .4))

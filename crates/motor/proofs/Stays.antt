@@ -21,6 +21,7 @@ use Rattle.motor.specs.declared.engine.command.Command.the-variants as c
 use Rattle.motor.specs.declared.engine.command.Said.{Said}
 use Rattle.motor.specs.declared.engine.command.Said.the-variants as said
 use Rattle.motor.specs.declared.engine.operation.Phase.{Phase}
+use Rattle.motor.specs.Limits.{longestTimeout}
 use Rattle.motor.specs.Calls.{isIdle, timeoutOf, arguedOf, encodes, orElse, admittedOf, startSaid, stepSaid}
 use Rattle.motor.specs.Numbers.{firstOf}
 use Rattle.motor.specs.Receive.{late}
@@ -56,7 +57,7 @@ two-stay false false r s p q = tt
 
 admitted-stays : (clock : ℕ) (p : Phase) (c : Command) (now : ℕ) → Stays (admittedOf clock p c now)
 unfolding among
-admitted-stays clock p c now = go (late clock now) (not (isIdle p)) (ltb 60000 (timeoutOf c))
+admitted-stays clock p c now = go (late clock now) (not (isIdle p)) (ltb longestTimeout (timeoutOf c))
   where
     go : (a b d : Bool) → Stays (firstOf ((a, refusal.TimeOutOfRange) ∷ (b, refusal.OperationRunning) ∷ (d, refusal.TimeoutTooLong) ∷ []))
     go true b d = refl

@@ -11,6 +11,7 @@ use Rattle.motor.specs.declared.readings.Reading.{Reading}
 use Rattle.motor.specs.declared.readings.Readings.{Readings}
 use Rattle.motor.specs.declared.readings.Entry.{Entry}
 use Rattle.motor.specs.declared.readings.Listing.{Listing}
+use Rattle.motor.specs.Limits.{mostReadings}
 use Rattle.motor.specs.Readings.{entry, noStored, noEntry, nextAt, entryAt, Holds, listing, walk, listingOf}
 use Rattle.motor.proofs.ReadingsHeld.{listing-holds}
 
@@ -22,35 +23,35 @@ module _ (r : List Reading) where
   walk-zero zero h e = refl
   walk-zero (suc k) h e = rw (eq-eqb h 0 e)
 
-  walk-out : (k h : ℕ) → 96 < h → walk k r h ≡ []
+  walk-out : (k h : ℕ) → mostReadings < h → walk k r h ≡ []
   unfolding walk
   walk-out zero h l = refl
-  walk-out (suc k) h l = rw (ne-eqb h 0 (λ e. omega arith), lt-ltb 96 h l)
+  walk-out (suc k) h l = rw (ne-eqb h 0 (λ e. omega arith), lt-ltb mostReadings h l)
 
-  walk-on : (k h : ℕ) → (h ≡ 0 → ⊥) → h ≤ 96 → walk (suc k) r h ≡ entryAt r h ∷ walk k r (nextAt r h)
+  walk-on : (k h : ℕ) → (h ≡ 0 → ⊥) → h ≤ mostReadings → walk (suc k) r h ≡ entryAt r h ∷ walk k r (nextAt r h)
   unfolding walk
-  walk-on k h a b = rw (ne-eqb h 0 a, le-ltb 96 h b)
+  walk-on k h a b = rw (ne-eqb h 0 a, le-ltb mostReadings h b)
 
 -- ---- the loop
 
 -- `count` entries are listed, and the walk goes on at record n
 pub record Walked (rs : Readings) (es : List Entry) (count n : ℕ) : Type 0 where
   pub passed : List Entry
-  pub most : count ≤ 96
+  pub most : count ≤ mostReadings
   pub counted : length passed ≡ count
-  pub filled : es ≡ passed ++ replicate (96 - count) noEntry
-  pub rest : passed ++ walk (96 - count) (rs .records) n ≡ walk 96 (rs .records) (nextAt (rs .records) 0)
+  pub filled : es ≡ passed ++ replicate (mostReadings - count) noEntry
+  pub rest : passed ++ walk (mostReadings - count) (rs .records) n ≡ walk mostReadings (rs .records) (nextAt (rs .records) 0)
 
-pub walked-first : (rs : Readings) (s : Stored) → s ≡ noStored → Walked rs (replicate 96 (entry 0 s)) 0 (nextAt (rs .records) 0)
+pub walked-first : (rs : Readings) (s : Stored) → s ≡ noStored → Walked rs (replicate mostReadings (entry 0 s)) 0 (nextAt (rs .records) 0)
 walked-first rs s e = record { passed = []; most = omega arith; counted = refl; filled = rw e; rest = refl }
 
-pub walked-more : (rs : Readings) (es : List Entry) (count n : ℕ) → Walked rs es count n → count < 96 → (n ≡ 0 → ⊥) → n ≤ 96
+pub walked-more : (rs : Readings) (es : List Entry) (count n : ℕ) → Walked rs es count n → count < mostReadings → (n ≡ 0 → ⊥) → n ≤ mostReadings
     → Walked rs (set es count (entryAt (rs .records) n)) (count + 1) (nextAt (rs .records) n)
 walked-more rs es count n x h a b =
     let e = entryAt (rs .records) n in
-    let m = 96 - (count + 1) in
-    let p : 96 - count ≡ suc m = omega arith in
-    let w : x .passed ++ walk (suc m) (rs .records) n ≡ walk 96 (rs .records) (nextAt (rs .records) 0) = rw p at (x .rest) in
+    let m = mostReadings - (count + 1) in
+    let p : mostReadings - count ≡ suc m = omega arith in
+    let w : x .passed ++ walk (suc m) (rs .records) n ≡ walk mostReadings (rs .records) (nextAt (rs .records) 0) = rw p at (x .rest) in
     let f : es ≡ x .passed ++ noEntry ∷ replicate m noEntry = x .filled ∙ rw p in
     record {
       passed = x .passed ++ (e ∷ []);
@@ -70,19 +71,19 @@ module _ (rs : Readings) (es : List Entry) (count n : ℕ) (x : Walked rs es cou
   abbrev Ended : Type 0
   Ended = (listed ≡ listingOf rs) × ((l : List Entry) → Holds rs l → listed ≡ listing l)
 
-  ended : walk (96 - count) (rs .records) n ≡ [] → Ended
+  ended : walk (mostReadings - count) (rs .records) n ≡ [] → Ended
   ended w =
-      let p : x .passed ≡ walk 96 (rs .records) (nextAt (rs .records) 0) = sym (append-nil (x .passed)) ∙ ap (λ (t : List Entry). x .passed ++ t) (sym w) ∙ x .rest in
+      let p : x .passed ≡ walk mostReadings (rs .records) (nextAt (rs .records) 0) = sym (append-nil (x .passed)) ∙ ap (λ (t : List Entry). x .passed ++ t) (sym w) ∙ x .rest in
       let q : listed ≡ listing (x .passed) = rw (x .filled, ← x .counted) in
       let e = q ∙ ap listing p in
       (e, λ l y. e ∙ listing-holds rs l y)
 
   pub walked-zero : n ≡ 0 → Ended
-  walked-zero e = ended (walk-zero (rs .records) (96 - count) n e)
+  walked-zero e = ended (walk-zero (rs .records) (mostReadings - count) n e)
 
-  pub walked-out : 96 < n → Ended
-  walked-out h = ended (walk-out (rs .records) (96 - count) n h)
+  pub walked-out : mostReadings < n → Ended
+  walked-out h = ended (walk-out (rs .records) (mostReadings - count) n h)
 
-  pub walked-all : 96 ≤ count → Ended
+  pub walked-all : mostReadings ≤ count → Ended
   unfolding walk
-  walked-all h = let k : 96 - count ≡ 0 = omega arith in ended (ap (λ (k : ℕ). walk k (rs .records) n) k)
+  walked-all h = let k : mostReadings - count ≡ 0 = omega arith in ended (ap (λ (k : ℕ). walk k (rs .records) n) k)

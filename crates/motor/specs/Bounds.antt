@@ -12,6 +12,7 @@ use Rattle.motor.specs.declared.engine.command.Command.{Command}
 use Rattle.motor.specs.declared.engine.command.Command.the-variants as command
 use Rattle.motor.specs.declared.engine.command.Said.{Said}
 use Rattle.motor.specs.declared.engine.command.Said.the-variants as said
+use Rattle.motor.specs.Limits.{longestTimeout, mostDueSteps, mostFrames}
 use Rattle.motor.specs.Calls.{isIdle, startSaid, stepSaid}
 use Rattle.motor.specs.Lone.{Lone, LoneAnswered, loneNew, loneStart, loneStep, hears}
 
@@ -110,7 +111,7 @@ GivenWithin most now (said.FinishedWith r) due = Unit {0}
 GivenWithin most now (said.Refused r) due = Unit {0}
 
 abbrev pub Given : ℕ → LoneAnswered → Type 0
-Given now a = GivenWithin 60000 now (a .said) (a .lone .state .operation .due)
+Given now a = GivenWithin longestTimeout now (a .said) (a .lone .state .operation .due)
 
 -- ---- the theorem
 
@@ -122,8 +123,8 @@ Accepted l c now = startSaid (l .state .clock) (l .state .operation .phase) c no
 pub record Bounds : Type 0 where
   pub frames : (l : Lone) (c : Command) (now : ℕ) (es : List Event) → Accepted l c now
       → once (sends l (start c now)) + count sends (after l (start c now)) es ≤ limitOf c
-  pub limits : (c : Command) → limitOf c ≤ 32
-  pub steps : (l : Lone) (c : Command) (now : ℕ) (es : List Event) → Accepted l c now → count isDue (after l (start c now)) es ≤ 40
+  pub limits : (c : Command) → limitOf c ≤ mostFrames
+  pub steps : (l : Lone) (c : Command) (now : ℕ) (es : List Event) → Accepted l c now → count isDue (after l (start c now)) es ≤ mostDueSteps
   pub waits : (l : Lone) (now d : ℕ) → l .state .operation .due ≤ now → loneStep l now .said ≡ said.Waiting d
       → (now < d) × (l .state .operation .due < d)
   pub started : (id host : ℕ) (model : Model) (wait since : ℕ) (es : List Event) (c : Command) (now : ℕ)

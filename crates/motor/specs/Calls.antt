@@ -35,6 +35,7 @@ use Rattle.motor.specs.declared.engine.node.Wait.{Wait}
 use Rattle.motor.specs.declared.engine.node.Wait.the-variants as wait
 use Rattle.motor.specs.declared.engine.reading.Found.{Found}
 use Rattle.motor.specs.declared.engine.reading.Found.the-variants as found
+use Rattle.motor.specs.Limits.{longestTimeout, latestTime}
 use Rattle.motor.specs.Numbers.{firstOf}
 use Rattle.motor.specs.Receive.{late}
 use Rattle.motor.specs.engine.Run.{idle}
@@ -51,7 +52,7 @@ idNumbers id host = (eqb id 0 || ltb 255 id, refusal.MotorIdOutOfRange) ∷ (ltb
 
 -- wait above 60,000; time above 10^15
 abbrev pub lastNumbers : ℕ → ℕ → List (Bool × Refusal)
-lastNumbers wait now = (ltb 60000 wait, refusal.TimeoutTooLong) ∷ (ltb 1000000000000000 now, refusal.TimeOutOfRange) ∷ []
+lastNumbers wait now = (ltb longestTimeout wait, refusal.TimeoutTooLong) ∷ (ltb latestTime now, refusal.TimeOutOfRange) ∷ []
 
 -- model unknown, before those
 abbrev pub modelNumbers : ModelNamed → ℕ → ℕ → List (Bool × Refusal)
@@ -158,7 +159,7 @@ admittedOf clock phase c now =
     firstOf
     ((late clock now, refusal.TimeOutOfRange)
     ∷ (not (isIdle phase), refusal.OperationRunning)
-    ∷ (ltb 60000 (timeoutOf c), refusal.TimeoutTooLong)
+    ∷ (ltb longestTimeout (timeoutOf c), refusal.TimeoutTooLong)
     ∷ [])
 
 abbrev pub startSaid : ℕ → Phase → Command → ℕ → Checked

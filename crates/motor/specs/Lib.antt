@@ -1,3 +1,4 @@
+pub mod Limits
 pub mod engine
 pub mod Readings
 pub mod Numbers

@@ -16,6 +16,7 @@ use Rattle.motor.specs.declared.readings.PutResult.{PutResult}
 use Rattle.motor.specs.declared.readings.PutAnswer.the-variants.{Kept, Full}
 use Rattle.motor.specs.declared.engine.reading.Found.{Found}
 use Rattle.motor.specs.declared.engine.reading.Found.the-variants.{Nothing, Held}
+use Rattle.motor.specs.Limits.{mostReadings, mostRecords}
 
 -- ---- what is held: entries in rising id
 
@@ -41,7 +42,7 @@ remove id (e ∷ es) = cond (eqb (e .id) id) es (e ∷ remove id es)
 
 -- no room is 15: 96 others held, id new
 abbrev pub room : ℕ → List Entry → Bool
-room id l = cond (holds id l) true (ltb (length l) 96)
+room id l = cond (holds id l) true (ltb (length l) mostReadings)
 
 -- every id of the list is above n
 abbrev pub Above : ℕ → List Entry → Type 0
@@ -76,7 +77,7 @@ run (suc n) s = s ∷ run n (suc s)
 
 -- at registration the free chain runs from 1 to 96
 abbrev pub atFirst : Lists
-atFirst = record { held = []; free = run 96 1 }
+atFirst = record { held = []; free = run mostReadings 1 }
 
 -- the record that holds id, 0 where none does
 abbrev pub recordOf : ℕ → List Numbered → ℕ
@@ -142,7 +143,7 @@ entryAt records i = entry (recAt records i .id) (recAt records i .held)
 abbrev pub Chain : List Reading → ℕ → List Numbered → Type 0
 Chain records h [] = h ≡ 0
 Chain records h (j ∷ js) =
-    (h ≡ j .0) × (1 ≤ j .0) × (j .0 ≤ 96) × (entryAt records (j .0) ≡ j .1) × Chain records (nextAt records (j .0)) js
+    (h ≡ j .0) × (1 ≤ j .0) × (j .0 ≤ mostReadings) × (entryAt records (j .0) ≡ j .1) × Chain records (nextAt records (j .0)) js
 
 -- how often k stands in the list
 unfoldable pub times : ℕ → List ℕ → ℕ
@@ -154,11 +155,11 @@ unused k = (k, noEntry)
 
 -- rs is good, and its two chains are these lists
 pub record Rep (rs : Readings) (ls : Lists) : Type 0 where
-  pub size : length (rs .records) ≡ 97
+  pub size : length (rs .records) ≡ mostRecords
   pub head : entryAt (rs .records) 0 ≡ noEntry
   pub held-chain : Chain (rs .records) (nextAt (rs .records) 0) (ls .held)
   pub free-chain : Chain (rs .records) (rs .free) (map unused (ls .free))
-  pub once : (k : ℕ) → 1 ≤ k → k ≤ 96 → times k (numbers (ls .held)) + times k (ls .free) ≡ 1
+  pub once : (k : ℕ) → 1 ≤ k → k ≤ mostReadings → times k (numbers (ls .held)) + times k (ls .free) ≡ 1
   pub rising : Rising (entries (ls .held))
 
 -- rs is good, and l is what it holds
@@ -175,20 +176,20 @@ pub record Puts (rs : Readings) (ls : Lists) (id : ℕ) (s : Stored) (r : PutRes
 
 -- a listing of l: its entries, then blank ones up to 96
 abbrev pub listing : List Entry → Listing
-listing l = record { count = length l; entries = l ++ replicate (96 - length l) noEntry }
+listing l = record { count = length l; entries = l ++ replicate (mostReadings - length l) noEntry }
 
 -- ---- what the functions give, on any value
 
 -- record k at registration: the head's next is 0, and so is that of record 96
 abbrev pub firstRecord : ℕ → Reading
-firstRecord k = freeRecord (cond (eqb k 0) 0 (cond (eqb k 96) 0 (k + 1)))
+firstRecord k = freeRecord (cond (eqb k 0) 0 (cond (eqb k mostReadings) 0 (k + 1)))
 
 abbrev pub emptyReadings : Readings
-emptyReadings = record { records = map firstRecord (run 97 0); free = 1 }
+emptyReadings = record { records = map firstRecord (run mostRecords 0); free = 1 }
 
 -- record n comes before the place of id
 abbrev pub before : List Reading → ℕ → ℕ → Bool
-before records id n = cond (eqb n 0) false (cond (ltb 96 n) false (ltb (idAt records n) id))
+before records id n = cond (eqb n 0) false (cond (ltb mostReadings n) false (ltb (idAt records n) id))
 
 -- from record p, k steps at most, to the last record before the place of id
 unfoldable pub seekFrom : ℕ → List Reading → ℕ → ℕ → ℕ
@@ -197,13 +198,13 @@ seekFrom (suc k) records id p =
     cond (before records id (nextAt records p)) (seekFrom k records id (nextAt records p)) p
 
 abbrev pub placeOf : Readings → ℕ → ℕ
-placeOf rs id = seekFrom 96 (rs .records) id 0
+placeOf rs id = seekFrom mostReadings (rs .records) id 0
 
 -- the record after record p where it holds id, else 0
 unfoldable pub holderAt : List Reading → ℕ → ℕ → ℕ
 holderAt records id p =
     let n = nextAt records p in
-    cond (eqb n 0) 0 (cond (ltb 96 n) 0 (cond (eqb (idAt records n) id) n 0))
+    cond (eqb n 0) 0 (cond (ltb mostReadings n) 0 (cond (eqb (idAt records n) id) n 0))
 
 abbrev pub holderOf : Readings → ℕ → ℕ
 holderOf rs id = holderAt (rs .records) id (placeOf rs id)
@@ -245,7 +246,7 @@ fullOf rs = record { said = Full; readings = rs }
 unfoldable pub addAt : Readings → ℕ → Stored → ℕ → PutResult
 addAt rs id s q =
     let f = rs .free in
-    cond (eqb f 0) (fullOf rs) (cond (ltb 96 f) (fullOf rs) (kept (linkedAt rs q f id s)))
+    cond (eqb f 0) (fullOf rs) (cond (ltb mostReadings f) (fullOf rs) (kept (linkedAt rs q f id s)))
 
 -- q is the record before the place of id, and n the one that holds it, 0 where none does
 unfoldable pub putAt : Readings → ℕ → Stored → ℕ → ℕ → PutResult
@@ -264,7 +265,7 @@ dropOf rs id = dropAt rs (placeOf rs id) (holderOf rs id)
 unfoldable pub walk : ℕ → List Reading → ℕ → List Entry
 walk zero records h = []
 walk (suc k) records h =
-    cond (eqb h 0) [] (cond (ltb 96 h) [] (entryAt records h ∷ walk k records (nextAt records h)))
+    cond (eqb h 0) [] (cond (ltb mostReadings h) [] (entryAt records h ∷ walk k records (nextAt records h)))
 
 abbrev pub listingOf : Readings → Listing
-listingOf rs = listing (walk 96 (rs .records) (nextAt (rs .records) 0))
+listingOf rs = listing (walk mostReadings (rs .records) (nextAt (rs .records) 0))

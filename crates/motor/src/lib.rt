@@ -5,6 +5,7 @@ pub mod edits;
 mod effects;
 pub mod engine;
 pub mod feedback;
+pub mod limits;
 pub mod motor;
 pub mod quiet;
 pub mod readings;

@@ -1,10 +1,14 @@
 // Readings: what a motor keeps for each parameter, in 96 records that form two chains.
 use crate::engine::reading::Found;
 use crate::engine::reading::Stored;
+use crate::limits::ENTRIES;
+use crate::limits::READINGS;
+use crate::limits::RECORDS;
 use codec::protocol::ParameterValue;
 ghost use mathlib.Core.Path.{_≡_};
 ghost use mathlib.Core.List.{List};
 ghost use Prim.Native.Nat.{_≤_, _<_};
+ghost use Rattle.motor.specs.Limits.{mostReadings, mostRecords};
 ghost use Rattle.motor.specs.Readings.{Lists, Rep, Holds, Puts, atFirst, lookup, dropIn, listing, noStored, freeRecord, withNext, seekFrom, holderAt, addAt, emptyReadings, findOf, putOf, dropOf, listingOf};
 
 // A record. The next of the last one is 0.
@@ -16,7 +20,7 @@ pub struct Reading {
 
 // Slot 0 is the head: its next is the first record held. A record's number is its index.
 pub struct Readings {
-    pub records: [Reading; 97],
+    pub records: [Reading; RECORDS],
     pub free: u16,
 }
 
@@ -39,7 +43,7 @@ pub struct Entry {
 // What is held, along the chain; the entries past count are blank.
 pub struct Listing {
     pub count: u16,
-    pub entries: [Entry; 96],
+    pub entries: [Entry; ENTRIES],
 }
 
 // What a record that holds nothing keeps.
@@ -64,9 +68,9 @@ pub fn empty() -> Readings
     ensures means { λ r. ⌜ Rep r atFirst ⌝ }
 {
     let last = free_record(0);
-    let mut records = [last; 97];
+    let mut records = [last; RECORDS];
     let mut i: u16 = 1;
-    while i < 96 {
+    while i < READINGS {
         let at = i as usize;
         let record = free_record(i + 1);
         records[at] = record;
@@ -77,17 +81,17 @@ pub fn empty() -> Readings
 
 // The last record, 0 for the head, before the place of id.
 pub(crate) fn seek(rs: Readings, id: u16) -> u16
-    ensures { λ r. ⌜ (r ≤ 96) × (r ≡ seekFrom 96 (rs .records) id 0) ⌝ }
+    ensures { λ r. ⌜ (r ≤ mostReadings) × (r ≡ seekFrom mostReadings (rs .records) id 0) ⌝ }
 {
     let mut p: u16 = 0;
-    let mut left: u16 = 96;
+    let mut left: u16 = READINGS;
     while 0 < left {
         let at = p as usize;
         let n = rs.records[at].next;
         if n == 0 {
             return p;
         }
-        if 96 < n {
+        if READINGS < n {
             return p;
         }
         let k = n as usize;
@@ -103,15 +107,15 @@ pub(crate) fn seek(rs: Readings, id: u16) -> u16
 
 // The record after record p where it holds id, else 0.
 fn holder(rs: Readings, id: u16, p: u16) -> u16
-    requires { ⌜ p ≤ 96 ⌝ }
-    ensures { λ r. ⌜ (r ≤ 96) × (r ≡ holderAt (rs .records) id p) ⌝ }
+    requires { ⌜ p ≤ mostReadings ⌝ }
+    ensures { λ r. ⌜ (r ≤ mostReadings) × (r ≡ holderAt (rs .records) id p) ⌝ }
 {
     let at = p as usize;
     let n = rs.records[at].next;
     if n == 0 {
         return 0;
     }
-    if 96 < n {
+    if READINGS < n {
         return 0;
     }
     let k = n as usize;
@@ -139,7 +143,7 @@ pub fn find(rs: Readings, id: u16) -> Found
 }
 
 fn with_next(rs: Readings, at: usize, n: u16) -> Readings
-    requires { ⌜ at < 97 ⌝ }
+    requires { ⌜ at < mostRecords ⌝ }
     ensures { λ r. ⌜ r ≡ withNext rs at n ⌝ }
 {
     let mut out = rs;
@@ -155,7 +159,7 @@ fn with_next(rs: Readings, at: usize, n: u16) -> Readings
 
 // id is not held, and its place is after record p: it takes the first free record.
 fn add(rs: Readings, id: u16, held: Stored, p: u16) -> PutResult
-    requires { ⌜ p ≤ 96 ⌝ }
+    requires { ⌜ p ≤ mostReadings ⌝ }
     ensures { λ r. ⌜ r ≡ addAt rs id held p ⌝ }
 {
     let f = rs.free;
@@ -165,7 +169,7 @@ fn add(rs: Readings, id: u16, held: Stored, p: u16) -> PutResult
             readings: rs,
         };
     }
-    if 96 < f {
+    if READINGS < f {
         return PutResult {
             said: PutAnswer::Full,
             readings: rs,
@@ -232,14 +236,14 @@ pub fn listed(rs: Readings) -> Listing
 {
     let held = blank();
     let none = Entry { id: 0, held };
-    let mut entries = [none; 96];
+    let mut entries = [none; ENTRIES];
     let mut count: u16 = 0;
     let mut n = rs.records[0].next;
-    while count < 96 {
+    while count < READINGS {
         if n == 0 {
             return Listing { count, entries };
         }
-        if 96 < n {
+        if READINGS < n {
             return Listing { count, entries };
         }
         let k = n as usize;

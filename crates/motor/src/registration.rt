@@ -1,5 +1,6 @@
 // A registration's tests that only its arguments decide.
-use crate::engine::script::LONGEST;
+use crate::limits::LATEST;
+use crate::limits::LONGEST;
 use codec::error::Checked;
 use codec::error::Refusal;
 use codec::model::Model;
@@ -16,9 +17,6 @@ pub enum Admission {
     Admitted(Model),
     Refused(Refusal),
 }
-
-// The last time that a call may give (7).
-const LATEST: u64 = 1_000_000_000_000_000;
 
 // 9 and 7, a registration's last tests.
 fn admitted_at(model: Model, write_wait: u64, time: u64) -> Admission

@@ -40,6 +40,7 @@ use Rattle.motor.specs.declared.engine.run.After.{After}
 use Rattle.motor.specs.declared.engine.run.After.the-variants as after
 use Rattle.motor.specs.declared.engine.reading.Found.{Found}
 use Rattle.motor.specs.declared.engine.reading.Found.the-variants as found
+use Rattle.motor.specs.Limits.{latestTime}
 use Rattle.motor.specs.engine.Hosts.{firstHost, nextHost}
 use Rattle.motor.specs.engine.Operations.{begins, okOf, gotOf, pingedOf, goneOf}
 use Rattle.motor.specs.engine.Requests.{asked, motionOf, motionFrame, renameFrame, noFrame}
@@ -232,4 +233,4 @@ abbrev pub tooLate : Move
 tooLate = over (said.Refused refusal.TimeOutOfRange) effect.Nothing
 
 abbrev pub inTime : ℕ → Move → Move
-inTime now v = cond (ltb 1000000000000000 now) tooLate v
+inTime now v = cond (ltb latestTime now) tooLate v

@@ -40,12 +40,13 @@ use Rattle.motor.specs.declared.engine.node.Pinged.{Pinged}
 use Rattle.motor.specs.declared.engine.node.Request.{Request}
 use Rattle.motor.specs.declared.engine.node.Request.the-variants as request
 use Rattle.motor.specs.declared.engine.node.Wait.the-variants as wait
+use Rattle.motor.specs.Limits.{longestTimeout}
 
 -- ---- windows
 
 -- max(timeout, least); a timeout is at most 60,000 (9)
 abbrev pub windowOf : ℕ → ℕ → ℕ
-windowOf timeout least = cond (ltb timeout least) least (cond (ltb 60000 timeout) 60000 timeout)
+windowOf timeout least = cond (ltb timeout least) least (cond (ltb longestTimeout timeout) longestTimeout timeout)
 
 -- ---- what operations are made of
 

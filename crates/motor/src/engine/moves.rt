@@ -22,6 +22,7 @@ ghost use mathlib.Core.Path.{_≡_};
 ghost use Prim.Native.Nat.{_≤_, _+_};
 ghost use Rattle.motor.specs.declared.engine.command.Outcome.the-variants as outcome;
 ghost use Rattle.motor.specs.declared.engine.operation.Effect.the-variants as effect;
+ghost use Rattle.motor.specs.Limits.{latestTime};
 ghost use Rattle.motor.specs.engine.Requests.{asked, renameFrame};
 ghost use Rattle.motor.specs.engine.Script.{word};
 ghost use Rattle.motor.specs.engine.Run.{idle, pausing, over, overWith, reported, paused, still, sentOn, requestOf, drops, countBy, markOf, attempt, lastDrops, motion};
@@ -192,7 +193,7 @@ pub(super) fn tried(
     host: u16,
     next: u8,
 ) -> Move
-    requires { ⌜ now ≤ 1000000000000000 ⌝ }
+    requires { ⌜ now ≤ latestTime ⌝ }
     ensures { λ r. ⌜ r ≡ attempt sight now wait window hosts host next ⌝ }
 {
     let due = now + window as u64;

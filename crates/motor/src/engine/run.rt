@@ -37,6 +37,7 @@ use crate::engine::operations::windows_gone;
 use crate::engine::reading::Found;
 use crate::engine::requests::request_frame;
 use crate::engine::script::window_of;
+use crate::limits::LATEST;
 use codec::bus::CanFrame;
 use codec::error::Refusal;
 use codec::protocol::EncodedValue;
@@ -44,6 +45,7 @@ use codec::protocol::ParameterValue;
 use codec::protocol::encode_parameter_value;
 ghost use mathlib.Core.Path.{_≡_};
 ghost use Prim.Native.Nat.{_≤_};
+ghost use Rattle.motor.specs.Limits.{latestTime};
 ghost use Rattle.motor.specs.engine.Operations.{okOf};
 ghost use Rattle.codec.specs.Values.{encodedValue};
 ghost use Rattle.motor.specs.engine.Run.{afterNode, sendThen, awaiting, lookPause, writeRaw, write, enter, retry, lookAck, lookValue, lookPing, look, advance, begin, tooLate, inTime};
@@ -76,7 +78,7 @@ fn after_node(node: Node) -> After
 
 // A frame that nothing waits for: with finished, with a pause that begins in this step, or what follows is due at once.
 fn sent_then(now: u64, frame: CanFrame, then: Acked) -> Move
-    requires { ⌜ now ≤ 1000000000000000 ⌝ }
+    requires { ⌜ now ≤ latestTime ⌝ }
     ensures { λ r. ⌜ r ≡ sendThen now frame then (afterNode (okOf then)) ⌝ }
 {
     match after_node(acked(then)) {
@@ -88,7 +90,7 @@ fn sent_then(now: u64, frame: CanFrame, then: Acked) -> Move
 
 // A write's frame: acknowledged by a status where the motor has a write wait.
 fn write_raw(sight: Sight, now: u64, request: Request, then: Acked) -> Move
-    requires { ⌜ now ≤ 1000000000000000 ⌝ }
+    requires { ⌜ now ≤ latestTime ⌝ }
     ensures { λ r. ⌜ r ≡ writeRaw sight now request then ⌝ }
 {
     let own = sight.feedback_id;
@@ -103,7 +105,7 @@ fn write_raw(sight: Sight, now: u64, request: Request, then: Acked) -> Move
 
 // A write, through the encoder.
 fn written(sight: Sight, now: u64, param_id: u16, value: ParameterValue, then: Acked) -> Move
-    requires { ⌜ now ≤ 1000000000000000 ⌝ }
+    requires { ⌜ now ≤ latestTime ⌝ }
     ensures { λ r. ⌜ r ≡ write sight now «param_id» then (encodedValue «param_id» value) ⌝ }
 {
     match encode_parameter_value(param_id, value) {
@@ -114,7 +116,7 @@ fn written(sight: Sight, now: u64, param_id: u16, value: ParameterValue, then: A
 
 // A wait begins, at its first host.
 fn awaited(sight: Sight, now: u64, wait: Wait, window: u32, hosts: Hosts) -> Move
-    requires { ⌜ now ≤ 1000000000000000 ⌝ }
+    requires { ⌜ now ≤ latestTime ⌝ }
     ensures { λ r. ⌜ r ≡ awaiting sight now wait window hosts ⌝ }
 {
     let host = first_host(sight.feedback_id, hosts);
@@ -122,7 +124,7 @@ fn awaited(sight: Sight, now: u64, wait: Wait, window: u32, hosts: Hosts) -> Mov
 }
 
 pub(super) fn entered(sight: Sight, now: u64, node: Node) -> Move
-    requires { ⌜ now ≤ 1000000000000000 ⌝ }
+    requires { ⌜ now ≤ latestTime ⌝ }
     ensures { λ r. ⌜ r ≡ enter sight now node ⌝ }
 {
     match node {
@@ -143,7 +145,7 @@ pub(super) fn entered(sight: Sight, now: u64, node: Node) -> Move
 
 // The window is gone: the next host, if there is one.
 fn retried(sight: Sight, now: u64, operation: Operation, wait: Wait) -> Move
-    requires { ⌜ now ≤ 1000000000000000 ⌝ }
+    requires { ⌜ now ≤ latestTime ⌝ }
     ensures { λ r. ⌜ r ≡ retry sight now operation wait ⌝ }
 {
     let hosts = operation.hosts;
@@ -162,7 +164,7 @@ fn looked_ack(
     request: Request,
     then: Acked,
 ) -> Move
-    requires { ⌜ now ≤ 1000000000000000 ⌝ }
+    requires { ⌜ now ≤ latestTime ⌝ }
     ensures { λ r. ⌜ r ≡ lookAck sight now operation by request then ⌝ }
 {
     if now >= operation.due {
@@ -183,7 +185,7 @@ fn looked_value(
     then: Got,
     found: Found,
 ) -> Move
-    requires { ⌜ now ≤ 1000000000000000 ⌝ }
+    requires { ⌜ now ≤ latestTime ⌝ }
     ensures { λ r. ⌜ r ≡ lookValue sight now operation «param_id» then found ⌝ }
 {
     let Found::Held(stored) = found else {
@@ -198,7 +200,7 @@ fn looked_value(
 
 // A ping likewise.
 fn looked_ping(sight: Sight, now: u64, operation: Operation, then: Pinged) -> Move
-    requires { ⌜ now ≤ 1000000000000000 ⌝ }
+    requires { ⌜ now ≤ latestTime ⌝ }
     ensures { λ r. ⌜ r ≡ lookPing sight now operation then ⌝ }
 {
     let ping = sight.ping_reply;
@@ -212,7 +214,7 @@ fn looked_ping(sight: Sight, now: u64, operation: Operation, then: Pinged) -> Mo
 }
 
 fn looked(sight: Sight, now: u64, operation: Operation, found: Found, wait: Wait) -> Move
-    requires { ⌜ now ≤ 1000000000000000 ⌝ }
+    requires { ⌜ now ≤ latestTime ⌝ }
     ensures { λ r. ⌜ r ≡ look sight now operation found wait ⌝ }
 {
     match wait {
@@ -231,7 +233,7 @@ fn looked(sight: Sight, now: u64, operation: Operation, found: Found, wait: Wait
 
 // What follows a pause, once it has ended.
 fn looked_pause(sight: Sight, now: u64, operation: Operation, then: Acked) -> Move
-    requires { ⌜ now ≤ 1000000000000000 ⌝ }
+    requires { ⌜ now ≤ latestTime ⌝ }
     ensures { λ r. ⌜ r ≡ lookPause sight now operation then ⌝ }
 {
     if now < operation.due {
@@ -242,7 +244,7 @@ fn looked_pause(sight: Sight, now: u64, operation: Operation, then: Acked) -> Mo
 
 // What a step does.
 fn advanced(sight: Sight, now: u64, operation: Operation, found: Found) -> Move
-    requires { ⌜ now ≤ 1000000000000000 ⌝ }
+    requires { ⌜ now ≤ latestTime ⌝ }
     ensures { λ r. ⌜ r ≡ advance sight now operation found (operation .phase) ⌝ }
 {
     let phase = operation.phase;
@@ -255,15 +257,13 @@ fn advanced(sight: Sight, now: u64, operation: Operation, found: Found) -> Move
 
 // What a start does.
 fn begun(sight: Sight, now: u64, command: Command) -> Move
-    requires { ⌜ now ≤ 1000000000000000 ⌝ }
+    requires { ⌜ now ≤ latestTime ⌝ }
     ensures { λ r. ⌜ r ≡ begin sight now command ⌝ }
 {
     entered(sight, now, begins_with(command))
 }
 
 // ---- in time: no move is made after 10^15 (7)
-
-const LATEST: u64 = 1_000_000_000_000_000;
 
 // 7, as a move.
 fn too_late() -> Move

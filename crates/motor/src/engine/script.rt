@@ -8,6 +8,8 @@ use crate::engine::node::Node;
 use crate::engine::node::Pinged;
 use crate::engine::node::Request;
 use crate::engine::node::Wait;
+use crate::limits::LONGEST;
+use crate::limits::LONGEST_WINDOW;
 use codec::error::Refusal;
 use codec::protocol::ParameterValue;
 use codec::registers::ControlMode;
@@ -19,9 +21,6 @@ ghost use Rattle.codec.specs.declared.protocol.ParameterValue.the-variants as v
 ghost use Rattle.motor.specs.declared.engine.node.Node.the-variants as node;
 ghost use Rattle.motor.specs.engine.Script.{windowOf, done, gone, ask, tell, get, put, setMode, ping};
 
-// The longest timeout that a call may give (9).
-pub const LONGEST: u64 = 60_000;
-
 // A window: the timeout, or this least where it is shorter.
 pub(super) fn window_of(timeout: u64, least: u32) -> u32
     ensures { λ r. ⌜ r ≡ windowOf timeout least ⌝ }
@@ -30,7 +29,7 @@ pub(super) fn window_of(timeout: u64, least: u32) -> u32
         return least;
     }
     if timeout > LONGEST {
-        return 60_000;
+        return LONGEST_WINDOW;
     }
     timeout as u32
 }

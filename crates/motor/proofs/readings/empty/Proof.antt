@@ -1,5 +1,6 @@
 -- Right because each turn leads one more record on, and the records at the end are those of the definition, one by one.
 use Prim.Native.Nat.{_-_}
+use Rattle.motor.specs.Limits.{mostReadings}
 use Rattle.motor.proofs.FirstChain.{Begun, begin, begin-more, empty-both}
 use borrow.Author.Needs.{needs}
 use Rattle.motor.proofs.readings.empty.Statement.{statement}
@@ -9,7 +10,7 @@ abbrev Inv-loop : tie.InvT-loop
 Inv-loop records₀ i₀ records i = Begun records i
 
 abbrev μ-loop : tie.MeasureT-loop
-μ-loop records₀ i₀ records i = 96 - i
+μ-loop records₀ i₀ records i = mostReadings - i
 
 free-record-requires : tie.Need-free-record-requires Inv-loop μ-loop
 free-record-requires c κs = search needs

@@ -1,5 +1,6 @@
 -- Right because each turn lists one more entry of the walk, and the rest stays blank.
 use Prim.Native.Nat.{_-_}
+use Rattle.motor.specs.Limits.{mostReadings}
 use Rattle.motor.proofs.Walks.{Walked, walked-first, walked-more, walked-zero, walked-out, walked-all}
 use borrow.Author.Needs.{needs}
 use Rattle.motor.proofs.readings.listed.Statement.{statement}
@@ -9,7 +10,7 @@ abbrev Inv-loop : tie.InvT-loop
 Inv-loop rs entries₀ count₀ n₀ entries count n = Walked rs entries count n
 
 abbrev μ-loop : tie.MeasureT-loop
-μ-loop rs entries₀ count₀ n₀ entries count n = 96 - count
+μ-loop rs entries₀ count₀ n₀ entries count n = mostReadings - count
 
 blank-requires : tie.Need-blank-requires Inv-loop μ-loop
 blank-requires c κs = search needs

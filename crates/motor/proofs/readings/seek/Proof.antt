@@ -2,6 +2,7 @@
 use Prim.Native.Nat.{_≤_}
 use mathlib.Core.Path.{_≡_, sym, _∙_}
 use native.Mathlib.Omega.{arith}
+use Rattle.motor.specs.Limits.{mostReadings}
 use Rattle.motor.specs.Readings.{seekFrom}
 use Rattle.motor.proofs.Search.{stop-zero, stop-out, stop-id, stop-none, step-on}
 use borrow.Author.Needs.{needs}
@@ -9,7 +10,7 @@ use Rattle.motor.proofs.readings.seek.Statement.{statement}
 use Rattle.motor.proofs.readings.seek.Tie as tie
 
 abbrev Inv-loop : tie.InvT-loop
-Inv-loop id rs p₀ left₀ p left = (p ≤ 96) × (left ≤ 96) × (seekFrom left (rs .records) id p ≡ seekFrom 96 (rs .records) id 0)
+Inv-loop id rs p₀ left₀ p left = (p ≤ mostReadings) × (left ≤ mostReadings) × (seekFrom left (rs .records) id p ≡ seekFrom mostReadings (rs .records) id 0)
 
 abbrev μ-loop : tie.MeasureT-loop
 μ-loop id rs p₀ left₀ p left = left
