@@ -1,15 +1,14 @@
 // Frames handed in round robin over the motors of a lent station.
-use crate::frames::frame_of;
 use crate::frames::motors_of;
+use crate::frames::next_frame;
 use crate::frames::next_id;
 use crate::frames::passed;
 use crate::loaded::last_parameter;
 use crate::loaded::loaded;
 use motor::motor::Motor;
-use station::lent::call::Ask;
-use station::lent::call::Asked;
-use station::lent::call::Replied;
-use station::lent::call::Reply;
+use station::call::Asked;
+use station::call::Call;
+use station::call::Replied;
 use station::lent::call::call;
 ghost use Prim.Native.Nat.{_+_, _≤_, _<_};
 
@@ -26,18 +25,8 @@ pub struct Beat {
 // The call that hands in the next frame.
 fn asked_at(b: Beat) -> Asked {
     Asked {
-        ask: Ask::Frame { time: 0 },
-        frame: frame_of(b.kind, b.id, b.parameter),
-    }
-}
-
-// 1 where a frame was not refused.
-fn passed_in(reply: Reply) -> u64
-    ensures { λ r. ⌜ r ≤ 1 ⌝ }
-{
-    match reply {
-        Reply::Told(said) => passed(said),
-        Reply::Moved(_) => 0,
+        call: Call::Frame { time: 0 },
+        frame: next_frame(b.kind, b.id, b.parameter),
     }
 }
 
@@ -51,10 +40,9 @@ fn next_beat(b: Beat, replied: Replied) -> Beat
     if b.passed == 0xFFFF_FFFF_FFFF_FFFF {
         return Beat { left: 0, ..b };
     }
-    let reply = replied.reply;
     Beat {
         left: b.left - 1,
-        passed: b.passed + passed_in(reply),
+        passed: b.passed + passed(replied),
         kind: b.kind,
         id: next_id(b.id, b.motors),
         motors: b.motors,

@@ -5,6 +5,8 @@ use crate::loaded::read_reply;
 use crate::loaded::status_frame;
 use codec::bus::CanFrame;
 use codec::error::Checked;
+use station::call::Answer;
+use station::call::Replied;
 use station::station::frame;
 ghost use Prim.Native.Nat.{_≤_};
 
@@ -27,7 +29,7 @@ pub(crate) fn next_id(id: u16, motors: u16) -> u16 {
 }
 
 // Kind 0 is a status frame, any other a read reply.
-pub(crate) fn frame_of(kind: u64, id: u16, parameter: u16) -> CanFrame {
+pub(crate) fn next_frame(kind: u64, id: u16, parameter: u16) -> CanFrame {
     if kind == 0 {
         return status_frame(id);
     }
@@ -35,12 +37,23 @@ pub(crate) fn frame_of(kind: u64, id: u16, parameter: u16) -> CanFrame {
 }
 
 // 1 where nothing was refused.
-pub(crate) fn passed(said: Checked) -> u64
+fn is_passed(said: Checked) -> u64
     ensures { λ r. ⌜ r ≤ 1 ⌝ }
 {
     match said {
         Checked::Passed => 1,
         Checked::Refused(_) => 0,
+    }
+}
+
+// 1 where a frame was not refused.
+pub(crate) fn passed(replied: Replied) -> u64
+    ensures { λ r. ⌜ r ≤ 1 ⌝ }
+{
+    let answer = replied.answer;
+    match answer {
+        Answer::Told(said) => is_passed(said),
+        _ => 0,
     }
 }
 
@@ -57,10 +70,10 @@ pub extern "C" fn frames_by_value(motors: u64, held: u64, kind: u64, times: u64)
     let mut taken: u64 = 0;
     let mut count: u64 = 0;
     while count < times {
-        let told = frame(st, frame_of(kind, id, parameter), 0);
-        let said = told.said;
-        st = told.station;
-        taken += passed(said);
+        let after = frame(st, next_frame(kind, id, parameter), 0);
+        let replied = after.replied;
+        st = after.station;
+        taken += passed(replied);
         id = next_id(id, motors);
         count += 1;
     }

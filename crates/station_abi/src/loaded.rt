@@ -60,8 +60,8 @@ fn registered(motors: u16) -> Station {
     let mut count: u16 = 0;
     while count < motors {
         count += 1;
-        let told = register(st, count, HOST as u16, b"rs-00", 0, 0);
-        st = told.station;
+        let after = register(st, count, HOST as u16, b"rs-00", 0, 0);
+        st = after.station;
     }
     st
 }
@@ -72,8 +72,8 @@ fn read_by_all(st: Station, motors: u16, parameter: u16) -> Station {
     let mut count: u16 = 0;
     while count < motors {
         count += 1;
-        let told = frame(after, read_reply(count, parameter), 0);
-        after = told.station;
+        let heard = frame(after, read_reply(count, parameter), 0);
+        after = heard.station;
     }
     after
 }

@@ -25,12 +25,12 @@ use Rattle.motor.specs.declared.motor.Motor.{Motor}
 use Rattle.motor.proofs.motor.Motor as motor-type
 use Rattle.motor.proofs.motor.Motor.Laws as motor-laws
 use Rattle.walks.proofs.ThinWalk as thin
-use Rattle.station.specs.declared.lent.call.Asked.{Asked}
-use Rattle.station.specs.declared.lent.call.Replied.{Replied}
-use Rattle.station.proofs.lent.call.Asked as asked-type
-use Rattle.station.proofs.lent.call.Asked.Laws as asked-laws
-use Rattle.station.proofs.lent.call.Replied as replied-type
-use Rattle.station.proofs.lent.call.Replied.Laws as replied-laws
+use Rattle.station.specs.declared.call.Asked.{Asked}
+use Rattle.station.specs.declared.call.Replied.{Replied}
+use Rattle.station.proofs.call.Asked as asked-type
+use Rattle.station.proofs.call.Asked.Laws as asked-laws
+use Rattle.station.proofs.call.Replied as replied-type
+use Rattle.station.proofs.call.Replied.Laws as replied-laws
 use Rattle.station.proofs.lent.call.call as called
 use Rattle.station.proofs.lent.call.call.Symbol as called-def
 use Rattle.station.proofs.lent.call.call.Met as called-thm

@@ -22,8 +22,8 @@ loaded-requires c κs = search needs
 loop-holds : tie.Need-loop-holds Inv-loop μ-loop
 loop-holds c = search needs
 
-frame-of-requires : tie.Need-frame-of-requires Inv-loop μ-loop
-frame-of-requires c κs = search needs
+next-frame-requires : tie.Need-next-frame-requires Inv-loop μ-loop
+next-frame-requires c κs = search needs
 
 frame-requires : tie.Need-frame-requires Inv-loop μ-loop
 frame-requires c κs = search needs
@@ -59,7 +59,7 @@ frames-by-value-spec =
     last-parameter-requires
     loaded-requires
     loop-holds
-    frame-of-requires
+    next-frame-requires
     frame-requires
     passed-requires
     add-taken
