@@ -41,6 +41,7 @@ use Rattle.motor.specs.declared.motor.Seen.{Seen}
 use Rattle.motor.specs.declared.motor.State.{State}
 use Rattle.motor.specs.declared.readings.Entry.{Entry}
 use Rattle.motor.specs.declared.readings.Listing.{Listing}
+use Rattle.motor.specs.Limits.{mostReadings}
 use Rattle.motor.specs.Calls.{isIdle}
 use Rattle.motor.specs.Readings.{noEntry}
 use Rattle.station.specs.declared.station.Looked.{Looked}
@@ -234,7 +235,7 @@ least-by a b false e = omega arith
 
 readings-short : (l : Listing) → Short (readingsText l) 2496
 unfolding readingsText
-readings-short l = wider (readings-upto (l .entries) (least (l .count) 96)) (omega (arith, least-by (l .count) 96 _ refl))
+readings-short l = wider (readings-upto (l .entries) (least (l .count) mostReadings)) (omega (arith, least-by (l .count) mostReadings _ refl))
 
 seen-short : (s : Seen) → Short (seenText s) 3880
 unfolding seenText

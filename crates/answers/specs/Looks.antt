@@ -23,6 +23,7 @@ use Rattle.motor.specs.declared.motor.Seen.{Seen}
 use Rattle.motor.specs.declared.motor.State.{State}
 use Rattle.motor.specs.declared.readings.Entry.{Entry}
 use Rattle.motor.specs.declared.readings.Listing.{Listing}
+use Rattle.motor.specs.Limits.{mostReadings}
 use Rattle.motor.specs.Calls.{isIdle}
 use Rattle.motor.specs.Readings.{noEntry}
 use Rattle.station.specs.declared.station.Looked.{Looked}
@@ -96,7 +97,7 @@ least a b = cond (ltb a b) a b
 
 -- one for each held reading, along the chain
 unfoldable pub readingsText : Listing → List ℕ
-readingsText l = readingsUpto (l .entries) (least (l .count) 96)
+readingsText l = readingsUpto (l .entries) (least (l .count) mostReadings)
 
 unfoldable pub seenText : Seen → List ℕ
 seenText s = heldText (s .state) ++ readingsText (s .readings) ++ ascii "end\n"

@@ -21,6 +21,7 @@ use motor::engine::operation::Operation;
 use motor::engine::operation::Phase;
 use motor::feedback::Latest;
 use motor::feedback::MotorFeedbackState;
+use motor::limits::ENTRIES;
 use motor::motor::HeldFault;
 use motor::motor::Seen;
 use motor::motor::State;
@@ -205,7 +206,7 @@ fn is_none(phase: Phase) -> bool
 fn put_readings(readings: Listing, out: &mut [u8], at: usize) -> usize
     ensures { λ r. ⌜ Put (now (out .entry)) at (spec.readingsText readings) (now (out .exit)) r ⌝ }
 {
-    let n = least(readings.count as usize, 96);
+    let n = least(readings.count as usize, ENTRIES);
     let entries = readings.entries;
     let mut p = at;
     let mut i: usize = 0;

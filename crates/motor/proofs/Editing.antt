@@ -16,6 +16,7 @@ use Rattle.motor.specs.declared.readings.PutAnswer.{PutAnswer}
 use Rattle.motor.specs.declared.readings.PutAnswer.the-variants.{Kept, Full}
 use Rattle.motor.specs.declared.readings.PutResult.{PutResult}
 use Rattle.motor.specs.declared.edits.PutEdit.{PutEdit}
+use Rattle.motor.specs.Limits.{mostReadings}
 use Rattle.motor.specs.Readings.{freeRecord, reading, entryAt, storedAt, withNext, linkedAt, replacedAt, kept, fullOf, addAt, putAt, putOf, placeOf, holderOf}
 use Rattle.motor.specs.Receive.{accepts, late, isRead, readStatus, readId, readStored, heardWith, heardOf}
 use Rattle.motor.specs.Edits.{edited, noEdit, linkEdit, replaceEdit, keptEdit, fullEdit, addEdit, putEditAt, putEdit, readHeard}
@@ -42,7 +43,7 @@ putWith rs p = record { said = p .said; readings = edited rs (p .edit) }
 -- a put's answer, and its edit stored, are those of the by-value put
 pub edit-puts : (rs : Readings) (id : ℕ) (s : Stored) → putWith rs (putEdit rs id s) ≡ putOf rs id s
 unfolding putEditAt putAt addEdit addAt edited
-edit-puts rs id s = go (eqb (holderOf rs id) 0) (eqb (rs .free) 0) (ltb 96 (rs .free))
+edit-puts rs id s = go (eqb (holderOf rs id) 0) (eqb (rs .free) 0) (ltb mostReadings (rs .free))
   where
     q : ℕ
     q = placeOf rs id

@@ -15,6 +15,7 @@ use Rattle.motor.specs.declared.readings.PutAnswer.the-variants.{Kept, F
 use Rattle.motor.specs.declared.edits.Edit.{Edit}
 use Rattle.motor.specs.declared.edits.PutEdit.{PutEdit}
 use Rattle.motor.specs.declared.edits.ReadHeard.{ReadHeard}
+use Rattle.motor.specs.Limits.{mostReadings}
 use Rattle.motor.specs.Readings.{entry, reading, recAt, nextAt, storedAt, withNext, placeOf, holderOf}
 use Rattle.motor.specs.Receive.{accepts, late, counted, readStatus, readId, readStored}
 
@@ -50,7 +51,7 @@ fullEdit rs = record { said = Full; edit = noEdit rs }
 unfoldable pub addEdit : Readings → ℕ → Stored → ℕ → PutEdit
 addEdit rs id s q =
     let f = rs .free in
-    cond (eqb f 0) (fullEdit rs) (cond (ltb 96 f) (fullEdit rs) (keptEdit (linkEdit rs q f id s)))
+    cond (eqb f 0) (fullEdit rs) (cond (ltb mostReadings f) (fullEdit rs) (keptEdit (linkEdit rs q f id s)))
 
 -- q is the record before the place of id, and n the one that holds it, 0 where none does
 unfoldable pub putEditAt : Readings → ℕ → Stored → ℕ → ℕ → PutEdit

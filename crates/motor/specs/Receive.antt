@@ -33,6 +33,7 @@ use Rattle.motor.specs.declared.readings.PutAnswer.{PutAnswer}
 use Rattle.motor.specs.declared.readings.PutAnswer.the-variants.{Kept, Full}
 use Rattle.motor.specs.declared.receive.Heard.{Heard}
 use Rattle.motor.specs.declared.quiet.StateHeard.{StateHeard}
+use Rattle.motor.specs.Limits.{latestTime}
 use Rattle.motor.specs.Numbers.{firstOf}
 use Rattle.motor.specs.Readings.{putOf}
 
@@ -48,7 +49,7 @@ accepts id f = f .«is_extended» && (among (frameType f) (0 ∷ 2 ∷ 17 ∷ 21
 
 -- 7: time below the motor's clock, or above 10^15
 unfoldable pub late : ℕ → ℕ → Bool
-late clock now = ltb now clock || ltb 1000000000000000 now
+late clock now = ltb now clock || ltb latestTime now
 
 -- ---- what frames change of the state: the rest of it stays
 

@@ -1,5 +1,6 @@
 // What a read reply stores: the state, and an edit of the readings, whose other records stay where they are.
 use crate::engine::reading::Stored;
+use crate::limits::READINGS;
 use crate::motor::Motor;
 use crate::motor::State;
 use crate::readings::PutAnswer;
@@ -17,6 +18,7 @@ use codec::error::Checked;
 use codec::error::Refusal;
 ghost use mathlib.Core.Path.{_≡_};
 ghost use Prim.Native.Nat.{_≤_, _<_};
+ghost use Rattle.motor.specs.Limits.{mostReadings, mostRecords};
 ghost use Rattle.motor.specs.Edits.{noEdit, addEdit, putEdit, readKept, readHeard};
 
 // What is to be stored of the readings: record `first` is `one`; then record `second` goes on to `link`; `free` is the first free record.
@@ -57,8 +59,8 @@ fn no_edit(rs: Readings) -> Edit
 
 // id is not held, and its place is after record p: it takes the first free record.
 fn add_edit(rs: Readings, id: u16, held: Stored, p: u16) -> PutEdit
-    requires { ⌜ p ≤ 96 ⌝ }
-    ensures { λ r. ⌜ (r ≡ addEdit rs id held p) × (r .edit .first < 97) × (r .edit .second < 97) ⌝ }
+    requires { ⌜ p ≤ mostReadings ⌝ }
+    ensures { λ r. ⌜ (r ≡ addEdit rs id held p) × (r .edit .first < mostRecords) × (r .edit .second < mostRecords) ⌝ }
 {
     let f = rs.free;
     if f == 0 {
@@ -68,7 +70,7 @@ fn add_edit(rs: Readings, id: u16, held: Stored, p: u16) -> PutEdit
             edit,
         };
     }
-    if 96 < f {
+    if READINGS < f {
         let edit = no_edit(rs);
         return PutEdit {
             said: PutAnswer::Full,
@@ -95,7 +97,7 @@ fn add_edit(rs: Readings, id: u16, held: Stored, p: u16) -> PutEdit
 
 // What a put of held for id stores: the record that holds id, else the first free one.
 pub(crate) fn put_edit(rs: Readings, id: u16, held: Stored) -> PutEdit
-    ensures { λ r. ⌜ (r ≡ putEdit rs id held) × (r .edit .first < 97) × (r .edit .second < 97) ⌝ }
+    ensures { λ r. ⌜ (r ≡ putEdit rs id held) × (r .edit .first < mostRecords) × (r .edit .second < mostRecords) ⌝ }
 {
     let p = seek(rs, id);
     let at = p as usize;
@@ -103,7 +105,7 @@ pub(crate) fn put_edit(rs: Readings, id: u16, held: Stored) -> PutEdit
     if n == 0 {
         return add_edit(rs, id, held, p);
     }
-    if 96 < n {
+    if READINGS < n {
         return add_edit(rs, id, held, p);
     }
     let k = n as usize;
@@ -138,7 +140,7 @@ fn read_kept(state: State, rs: Readings, said: Checked) -> ReadHeard
 
 // A read reply: 13 and 7 change nothing; else it is counted, 14 and 15 store nothing, and a value is put.
 pub fn hear_read(m: Motor, frame: CanFrame, now: u64) -> ReadHeard
-    ensures { λ r. ⌜ (r ≡ readHeard m frame now) × (r .edit .first < 97) × (r .edit .second < 97) ⌝ }
+    ensures { λ r. ⌜ (r ≡ readHeard m frame now) × (r .edit .first < mostRecords) × (r .edit .second < mostRecords) ⌝ }
 {
     let s = m.state;
     let rs = m.readings;

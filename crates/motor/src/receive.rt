@@ -4,6 +4,7 @@ use crate::engine::reading::Stored;
 use crate::feedback::FeedbackCache;
 use crate::feedback::feedback_in;
 use crate::feedback::update;
+use crate::limits::LATEST;
 use crate::motor::HeldFault;
 use crate::motor::Motor;
 use crate::motor::State;
@@ -100,7 +101,7 @@ pub(crate) fn is_late(clock: u64, now: u64) -> bool
     if now < clock {
         return true;
     }
-    1_000_000_000_000_000 < now
+    LATEST < now
 }
 
 // ---- what frames tell

@@ -24,6 +24,7 @@ use Rattle.answers.specs.Said.{okText}
 use Rattle.answers.proofs.Lengths.{told-fits, said-fits, looked-fits}
 use Rattle.text.specs.Ascii.{ascii}
 use Rattle.text.proofs.TextLengths.{Short, words, none, wider, _&_, either, decimal-short}
+use Rattle.replay.specs.Limits.{longestAnswer}
 use Rattle.replay.specs.Reasons.{wantedText, reasonText, errorText}
 use Rattle.replay.specs.Events.{answerText, repliedText, asked, calledText, callText, otherText, textAfter}
 
@@ -73,11 +74,11 @@ replied-by (answer.Told k) r time = wider (told-fits k) (omega arith)
 replied-by (answer.Moved s) r time = said-fits s (r .frame) (r .result) time
 replied-by (answer.Looked k) r time = wider (told-fits k) (omega arith)
 
-called-fits : (st : Station) (c : Call) (f : CanFrame) → Short (calledText st c f) 4096
+called-fits : (st : Station) (c : Call) (f : CanFrame) → Short (calledText st c f) longestAnswer
 unfolding repliedText
 called-fits st c f = wider (replied-by (callIn st (asked c f) .replied .answer) (callIn st (asked c f) .replied) (timeOf c)) (omega arith)
 
-call-fits : (st : Station) (c : Call) (f : CanFrame) → Short (callText st c f) 4096
+call-fits : (st : Station) (c : Call) (f : CanFrame) → Short (callText st c f) longestAnswer
 unfolding callText
 call-fits st (call.Register id host model wait time) f = called-fits st (call.Register id host model wait time) f
 call-fits st (call.Start id c time) f = called-fits st (call.Start id c time) f
@@ -86,16 +87,16 @@ call-fits st (call.Frame time) f = called-fits st (call.Frame time) f
 call-fits st (call.Look id) f = wider (looked-fits (lookIn st id)) (omega arith)
 call-fits st (call.Remove id time) f = called-fits st (call.Remove id time) f
 
-other-fits : (o : Other) → Short (otherText o) 4096
+other-fits : (o : Other) → Short (otherText o) longestAnswer
 unfolding otherText
 other-fits other.Nothing = none
 other-fits (other.Error reason) = wider (error-fits reason) (omega arith)
 other-fits other.Fresh = wider (words okText) (omega arith)
 
-answer-fits : (st : Station) (e : Event) (f : CanFrame) → Short (textAfter st e f) 4096
+answer-fits : (st : Station) (e : Event) (f : CanFrame) → Short (textAfter st e f) longestAnswer
 unfolding textAfter
 answer-fits st (event.Call c) f = call-fits st c f
 answer-fits st (event.Other o) f = other-fits o
 
-pub fits : (st : Station) (e : Event) (f : CanFrame) → length (textAfter st e f) ≤ 4096
+pub fits : (st : Station) (e : Event) (f : CanFrame) → length (textAfter st e f) ≤ longestAnswer
 fits st e f = answer-fits st e f .fits

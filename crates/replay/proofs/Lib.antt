@@ -1,3 +1,4 @@
+pub mod LimitsTied
 pub mod Fits
 pub mod Turning
 pub mod Cursors

@@ -1,3 +1,4 @@
+pub mod Limits
 pub mod Reasons
 pub mod Events
 pub mod Turns

@@ -6,6 +6,7 @@ use lib.Dec.{ltb, leb}
 use lib.ListN.{length, take, drop}
 use Rattle.bytes.specs.Bytes.{slice, indexOf}
 use Rattle.replay.specs.declared.cursor.Cursor.{Cursor}
+use Rattle.replay.specs.Limits.{outputRoom}
 
 -- the bytes between two places, none where there are no such places
 unfoldable pub lineAt : List ℕ → ℕ → ℕ → List ℕ
@@ -29,4 +30,4 @@ cursorAfter inp n c place good = cursorFrom inp n ((c .«end» + 1) % 2 ^ 64) pl
 
 -- an answer is put at the front of the buffer where less than an answer's length is free
 unfoldable pub roomAt : ℕ → ℕ
-roomAt p = cond (ltb 57344 p) 0 p
+roomAt p = cond (ltb outputRoom p) 0 p

@@ -1,18 +1,17 @@
 // Standard input cut into lines, and the answers written before more is awaited.
+use crate::limits::KEPT;
 use crate::turns::take_lines;
 use motor::motor::Motor;
+use station::limits::MOTORS;
 use station::station::new;
 
 // What is left after the whole lines of a read: the places, how many bytes of a line that isn't whole are kept, and whether every
 // write went well.
 pub struct Turn {
-    pub motors: [Motor; 8],
+    pub motors: [Motor; MOTORS],
     pub kept: usize,
     pub good: bool,
 }
-
-// Of a line that fills the buffer so many bytes are kept: it is too long, whatever follows.
-const KEPT: usize = 5000;
 
 // Answers the lines of the input until it ends or a write fails. Nothing says that an input ends, so the turns are counted down
 // from a number that no run uses up.
@@ -56,7 +55,7 @@ fn read_after(inp: &mut [u8], kept: usize) -> usize {
 }
 
 // Answers the lines that end among the first n bytes, writes the answers, and keeps what follows the last line.
-fn whole_lines(motors: [Motor; 8], inp: &mut [u8], n: usize, out: &mut [u8]) -> Turn {
+fn whole_lines(motors: [Motor; MOTORS], inp: &mut [u8], n: usize, out: &mut [u8]) -> Turn {
     let taken = take_lines(motors, inp, n, out);
     let after = taken.motors;
     let c = taken.cursor;
@@ -70,7 +69,7 @@ fn whole_lines(motors: [Motor; 8], inp: &mut [u8], n: usize, out: &mut [u8]) -> 
 }
 
 // The last line, where the input ends without LF: one is put behind it.
-fn finish(motors: [Motor; 8], inp: &mut [u8], kept: usize, out: &mut [u8]) {
+fn finish(motors: [Motor; MOTORS], inp: &mut [u8], kept: usize, out: &mut [u8]) {
     let n = ended(inp, kept);
     let turn = whole_lines(motors, inp, n, out);
     if !turn.good {

@@ -1,6 +1,7 @@
 // Replay: reads a recorded session, hands each event to a station, and writes what the station answers.
 mod cursor;
 mod errors;
+mod limits;
 mod lines;
 mod others;
 mod turns;

@@ -4,6 +4,7 @@ use crate::cursor::Cursor;
 use crate::cursor::first_line;
 use crate::cursor::line_in;
 use crate::cursor::next_line;
+use crate::limits::ROOM;
 use crate::lines::flush;
 use crate::others::is_fresh;
 use crate::others::put_other;
@@ -22,6 +23,7 @@ use station::call::Call;
 use station::call::Replied;
 use station::call::time_of;
 use station::lent::look::look;
+use station::limits::MOTORS;
 use station::station::Looked;
 use station::station::new;
 ghost use mathlib.Core.Path.{_≡_};
@@ -36,7 +38,7 @@ ghost use Rattle.replay.specs.Turns as turn;
 
 // The places after lines, and where the next line stands.
 pub struct Taken {
-    pub motors: [Motor; 8],
+    pub motors: [Motor; MOTORS],
     pub cursor: Cursor,
 }
 
@@ -45,9 +47,6 @@ struct Room {
     at: usize,
     good: bool,
 }
-
-// Where less than an answer's length is free, what stands in the buffer is written first.
-const ROOM: usize = 57344;
 
 // What the line at a cursor says.
 fn line_at(inp: &[u8], c: Cursor) -> Line
@@ -118,7 +117,7 @@ fn put_look(looked: Looked, inp: &[u8], n: usize, out: &mut [u8], c: Cursor) -> 
 
 // What a line says besides calls: `fresh` is a new station, all else leaves it as it was.
 fn take_other(
-    motors: [Motor; 8],
+    motors: [Motor; MOTORS],
     other: Other,
     inp: &[u8],
     n: usize,
@@ -140,7 +139,7 @@ fn take_other(
 
 // The line at a cursor, answered on the lent station: the places at exit and the text are those of the by-value calls.
 pub(crate) fn take_line(
-    motors: &mut [Motor; 8],
+    motors: &mut [Motor; MOTORS],
     inp: &[u8],
     n: usize,
     out: &mut [u8],
@@ -171,7 +170,7 @@ pub(crate) fn take_line(
 }
 
 // The lines that end among the first n bytes.
-pub(crate) fn take_lines(motors: [Motor; 8], inp: &[u8], n: usize, out: &mut [u8]) -> Taken {
+pub(crate) fn take_lines(motors: [Motor; MOTORS], inp: &[u8], n: usize, out: &mut [u8]) -> Taken {
     let mut motors = motors;
     let mut cursor = first_line(inp, n);
     while cursor.more {

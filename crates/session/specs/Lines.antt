@@ -13,6 +13,7 @@ use Rattle.session.specs.declared.event.Event.the-variants as event
 use Rattle.session.specs.declared.event.Line.{Line}
 use Rattle.session.specs.declared.event.Other.the-variants as other
 use Rattle.session.specs.declared.event.Reason.the-variants as reason
+use Rattle.session.specs.Limits.{longestLine}
 use Rattle.session.specs.Table.{events, placeOf}
 use Rattle.session.specs.Arguments.{argsOf, fitOf}
 use Rattle.session.specs.Commands.{byte, half, started}
@@ -61,6 +62,6 @@ unfoldable pub readLine : List ℕ → Line
 readLine line =
     orLine (eqb (length line) 0) (bare (event.Other other.Nothing))
     (orLine (eqb (getD line 0 0) 0x23) (bare (event.Other other.Nothing))
-    (orLine (ltb 4096 (length line)) (bad reason.LineTooLong)
+    (orLine (ltb longestLine (length line)) (bad reason.LineTooLong)
     (orLine (eqb (getD line 0 0) 0x28) (heardIn line)
     (lineBy line (placeOf events (wordAt line 0))))))

@@ -4,5 +4,6 @@ mod commands;
 pub mod event;
 mod frame;
 mod heard;
+pub mod limits;
 pub mod line;
 pub mod table;

@@ -15,6 +15,7 @@ use crate::event::bare;
 use crate::event::hands;
 use crate::frame::can_frame;
 use crate::heard::heard;
+use crate::limits::LONGEST;
 use crate::table::EVENTS;
 use crate::table::START;
 use crate::table::place;
@@ -24,9 +25,6 @@ ghost use mathlib.Core.Path.{_≡_};
 ghost use lib.ListN.{length};
 ghost use Prim.Native.Nat.{_≤_};
 ghost use Rattle.session.specs.Lines as spec;
-
-// The longest line.
-pub const LONGEST: usize = 4096;
 
 // How long a line is without one CR at its end.
 pub fn shown(line: &[u8]) -> usize

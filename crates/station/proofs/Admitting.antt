@@ -13,6 +13,7 @@ use Rattle.codec.specs.declared.error.Refusal.the-variants as refusal
 use Rattle.codec.specs.declared.model.Model.{Model}
 use Rattle.codec.specs.declared.model.ModelNamed.{ModelNamed}
 use Rattle.codec.specs.declared.model.ModelNamed.the-variants as named
+use Rattle.motor.specs.Limits.{longestTimeout, latestTime}
 use Rattle.motor.specs.Calls.{registerNumbers, registeredBy}
 use Rattle.motor.specs.Lone.{loneNew}
 use Rattle.motor.specs.Motors.{newMotor}
@@ -51,8 +52,8 @@ known : (m host wait time : ℕ) → firstOf (registerNumbers m host named.Unkno
 known m host wait time e = go (eqb m 0 || ltb 255 m) (ltb 255 host) e
   where
     go : (a b : Bool)
-        → firstOf ((a, refusal.MotorIdOutOfRange) ∷ (b, refusal.HostIdOutOfRange) ∷ (true, refusal.UnknownModel) ∷ (ltb 60000 wait, refusal.TimeoutTooLong)
-        ∷ (ltb 1000000000000000 time, refusal.TimeOutOfRange) ∷ []) ≡ checked.Passed → ⊥
+        → firstOf ((a, refusal.MotorIdOutOfRange) ∷ (b, refusal.HostIdOutOfRange) ∷ (true, refusal.UnknownModel) ∷ (ltb longestTimeout wait, refusal.TimeoutTooLong)
+        ∷ (ltb latestTime time, refusal.TimeOutOfRange) ∷ []) ≡ checked.Passed → ⊥
     go true b e = refused-passed refusal.MotorIdOutOfRange e
     go false true e = refused-passed refusal.HostIdOutOfRange e
     go false false e = refused-passed refusal.UnknownModel e

@@ -31,6 +31,7 @@ use Rattle.motor.specs.declared.engine.operation.Phase.{Phase}
 use Rattle.motor.specs.declared.engine.operation.Sight.{Sight}
 use Rattle.motor.specs.declared.engine.run.After.{After}
 use Rattle.motor.specs.declared.engine.run.After.the-variants as after
+use Rattle.motor.specs.Limits.{longestTimeout}
 use Rattle.motor.specs.engine.Operations.{begins, okOf}
 use Rattle.motor.specs.engine.Run.{afterNode, sendThen, write, enter, begin}
 use Rattle.motor.specs.engine.Script.{windowOf, tell}
@@ -163,7 +164,7 @@ start-number h c now = go (startSaid clock p c now) refl (tested (admittedOf clo
     p = h .state .operation .phase
 
     tests : List (Bool × Refusal)
-    tests = (late clock now, refusal.TimeOutOfRange) ∷ (not (isIdle p), refusal.OperationRunning) ∷ (ltb 60000 (timeoutOf c), refusal.TimeoutTooLong) ∷ []
+    tests = (late clock now, refusal.TimeOutOfRange) ∷ (not (isIdle p), refusal.OperationRunning) ∷ (ltb longestTimeout (timeoutOf c), refusal.TimeoutTooLong) ∷ []
 
     tested : (a : Checked) → among (checkedNumber a) startNumbers ≡ true → among (checkedNumber (orElse a (arguedOf c))) startNumbers ≡ true
     tested checked.Passed e = begun c .0

@@ -25,6 +25,7 @@ use Rattle.station.specs.declared.call.Answer.the-variants as answer
 use Rattle.station.specs.declared.call.Asked.{Asked}
 use Rattle.station.specs.declared.call.Call.{Call}
 use Rattle.station.specs.declared.call.Call.the-variants as call
+use Rattle.station.specs.Limits.{mostMotors}
 use Rattle.station.specs.Calls.{register, start, step, frame, remove, Reply, ok}
 use Rattle.station.specs.Station.{Place, empty, held, Distinct, admission, source, stationCall}
 use Rattle.station.specs.History.{Told, mine, ofM, after, story, own, history, alone, holds}
@@ -75,7 +76,7 @@ pub record Same {m : ℕ} {r : Given} (x y : Run m r) : Type 0 where
 pub record Demand3 : Type 0 where
   pub two-runs : (m : ℕ) (r : Given) (x y : Run m r) → history m (since x) ≡ history m (since y) → Same x y
   pub lone-motor : (m : ℕ) (r : Given) (x : Run m r) → AsLone x
-  pub places : (cs : List Asked) → (length (after empty cs) ≡ 8) × Distinct (after empty cs)
+  pub places : (cs : List Asked) → (length (after empty cs) ≡ mostMotors) × Distinct (after empty cs)
   pub taken-in : (cs : List Asked) (m : ℕ) (r : Given)
       → admission (after empty cs) m (r .host) (named.Known (r .model)) (r .wait) (r .time) ≡ checked.Passed
       → (stationCall (after empty cs) (registers m r)) .0 ≡ ok

@@ -1,3 +1,4 @@
+pub mod Limits
 pub mod lent
 pub mod Calls
 pub mod Station

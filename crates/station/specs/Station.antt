@@ -20,6 +20,7 @@ use Rattle.motor.specs.Receive.{frameExtra, accepts}
 use Rattle.station.specs.declared.call.Asked.{Asked}
 use Rattle.station.specs.declared.call.Call.{Call}
 use Rattle.station.specs.declared.call.Call.the-variants as call
+use Rattle.station.specs.Limits.{mostMotors}
 use Rattle.station.specs.Calls.{Reply, ok, no, says, shows, answered, refuses}
 
 -- ---- places
@@ -31,7 +32,7 @@ pub data Place : Type 0 where
 
 -- a fresh station has no motor
 unfoldable pub empty : List Place
-empty = replicate 8 free
+empty = replicate mostMotors free
 
 -- what is held for the id; none where it isn't registered
 unfoldable pub held : List Place → ℕ → Option Lone

@@ -33,6 +33,7 @@ use Rattle.station.specs.declared.call.Asked.{Asked}
 use Rattle.station.specs.declared.call.Call.{Call}
 use Rattle.station.specs.declared.call.Call.the-variants as call
 use Rattle.station.specs.declared.call.Replied.{Replied}
+use Rattle.station.specs.Limits.{mostMotors}
 use Rattle.station.specs.Calls.{reply, told, moved, Reply, gives, shows}
 use Rattle.station.specs.Station.{Place, free, taken, source}
 
@@ -43,7 +44,7 @@ unfoldable pub freeMotor : Motor
 freeMotor = newMotor 0 0 models.Rs00 0 0
 
 unfoldable pub newStation : Station
-newStation = record { motors = replicate 8 freeMotor }
+newStation = record { motors = replicate mostMotors freeMotor }
 
 -- the first place of an id, the number of places where there is none
 unfoldable pub indexOf : List Motor → ℕ → ℕ
@@ -52,7 +53,7 @@ indexOf (m ∷ ms) id = cond (eqb (m .state .«motor_id») id) zero (suc (indexO
 
 -- the place of a registered id, 8 where it isn't registered
 unfoldable pub takenPlace : List Motor → ℕ → ℕ
-takenPlace ms id = cond (eqb id 0) 8 (indexOf ms id)
+takenPlace ms id = cond (eqb id 0) mostMotors (indexOf ms id)
 
 abbrev pub motorAt : Station → ℕ → Motor
 motorAt st i = getD (st .motors) i freeMotor
@@ -62,7 +63,7 @@ withMotor st i m = record { motors = set (st .motors) i m }
 
 -- what is done at the place of a registered id, else the refusal
 unfoldable pub atPlace : {A : Type 0} → Station → ℕ → (ℕ → A) → A → A
-atPlace st id found none = cond (ltb (takenPlace (st .motors) id) 8) (found (takenPlace (st .motors) id)) none
+atPlace st id found none = cond (ltb (takenPlace (st .motors) id) mostMotors) (found (takenPlace (st .motors) id)) none
 
 -- ---- the calls
 
@@ -89,7 +90,7 @@ removedAt (checked.Refused r) st i = tells st (checked.Refused r)
 -- the first free place is that of the id 0
 unfoldable pub enteredIn : Station → Motor → After
 enteredIn st m =
-    cond (ltb (indexOf (st .motors) 0) 8)
+    cond (ltb (indexOf (st .motors) 0) mostMotors)
     (tells (withMotor st (indexOf (st .motors) 0) m) checked.Passed)
     (tells st (checked.Refused refusal.StationFull))
 
@@ -161,7 +162,7 @@ PlacesAs (m ∷ ms) (p ∷ s) = PlaceAs m p × PlacesAs ms s
 
 -- st is good, and s is what it holds
 pub record Shows (st : Station) (s : List Place) : Type 0 where
-  pub eight : length (st .motors) ≡ 8
+  pub eight : length (st .motors) ≡ mostMotors
   pub places : PlacesAs (st .motors) s
 
 -- ---- the functions answer as document 01's station does

@@ -2,5 +2,6 @@
 // the answer. No public function asks anything of its caller; each promises its whole result.
 pub mod call;
 pub mod lent;
+pub mod limits;
 mod place;
 pub mod station;

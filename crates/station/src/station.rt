@@ -4,6 +4,7 @@ use crate::call::Replied;
 use crate::call::moved;
 use crate::call::reply;
 use crate::call::told;
+use crate::limits::MOTORS;
 use crate::place::free_motor;
 use crate::place::motor_at;
 use crate::place::place_of;
@@ -29,6 +30,7 @@ ghost use mathlib.Core.Path.{_≡_};
 ghost use mathlib.Core.List.{List};
 ghost use Prim.Native.Nat.{_<_};
 ghost use Rattle.codec.specs.Models.{modelNamed};
+ghost use Rattle.station.specs.Limits.{mostMotors};
 ghost use Rattle.station.specs.Calls as asked;
 ghost use Rattle.station.specs.Station.{Place, source, empty, stationCall};
 ghost use Rattle.station.specs.Stations.{newStation, withMotor, tells, movedAt, unmoved, heardAt, removedAt, admittedIn, registerIn, startIn, stepIn, frameIn, lookIn, removeIn};
@@ -36,7 +38,7 @@ ghost use Rattle.station.specs.Stations.{Shows, LeavesAs, replyOf};
 
 // Eight places, each free or taken by a motor.
 pub struct Station {
-    pub motors: [Motor; 8],
+    pub motors: [Motor; MOTORS],
 }
 
 // What a call other than a look replies, and the station after it.
@@ -57,13 +59,13 @@ pub fn new() -> Station
     ensures means { λ r. ⌜ Shows r empty ⌝ }
 {
     let m = free_motor();
-    let motors = [m; 8];
+    let motors = [m; MOTORS];
     Station { motors }
 }
 
 // One place replaced. Every call that changes a station does it by this.
 fn with_motor(st: Station, i: usize, m: Motor) -> Station
-    requires { ⌜ i < 8 ⌝ }
+    requires { ⌜ i < mostMotors ⌝ }
     ensures { λ r. ⌜ r ≡ withMotor st i m ⌝ }
 {
     let motors = st.motors;
@@ -85,11 +87,11 @@ fn admitted(st: Station, id: u16, host: u16, model: Model, wait: u64, time: u64)
     ensures { λ r. ⌜ r ≡ admittedIn st id host model wait time ⌝ }
 {
     let motors = st.motors;
-    if taken_place(motors, id) < 8 {
+    if taken_place(motors, id) < MOTORS {
         return tell(st, Checked::Refused(Refusal::IdRegistered));
     }
     let i = place_of(motors, 0);
-    if i < 8 {
+    if i < MOTORS {
         let m = motor::motor::new(id, host, model, wait, time);
         return tell(with_motor(st, i, m), Checked::Passed);
     }
@@ -110,7 +112,7 @@ pub fn register(st: Station, id: u16, host: u16, name: &[u8], wait: u64, time: u
 // ---- start: 6, then the motor's. Step: 6, then the motor's
 
 fn moved_at(st: Station, i: usize, a: Answered) -> After
-    requires { ⌜ i < 8 ⌝ }
+    requires { ⌜ i < mostMotors ⌝ }
     ensures { λ r. ⌜ r ≡ movedAt st i a ⌝ }
 {
     let m = a.motor;
@@ -137,7 +139,7 @@ pub fn start(st: Station, id: u16, command: Command, now: u64) -> After
 {
     let motors = st.motors;
     let i = taken_place(motors, id);
-    if i < 8 {
+    if i < MOTORS {
         let m = motor_at(motors, i);
         return moved_at(st, i, motor::motor::start(m, command, now));
     }
@@ -151,7 +153,7 @@ pub fn step(st: Station, id: u16, now: u64) -> After
 {
     let motors = st.motors;
     let i = taken_place(motors, id);
-    if i < 8 {
+    if i < MOTORS {
         let m = motor_at(motors, i);
         return moved_at(st, i, motor::motor::step(m, now));
     }
@@ -169,7 +171,7 @@ pub(crate) fn source_of(frame: CanFrame) -> u16
 }
 
 fn heard_at(st: Station, i: usize, h: Heard) -> After
-    requires { ⌜ i < 8 ⌝ }
+    requires { ⌜ i < mostMotors ⌝ }
     ensures { λ r. ⌜ r ≡ heardAt st i h ⌝ }
 {
     let m = h.motor;
@@ -188,7 +190,7 @@ pub fn frame(st: Station, frame: CanFrame, now: u64) -> After
     }
     let motors = st.motors;
     let i = taken_place(motors, id);
-    if i < 8 {
+    if i < MOTORS {
         let m = motor_at(motors, i);
         return heard_at(st, i, process_feedback_frame(m, frame, now));
     }
@@ -204,7 +206,7 @@ pub fn look(st: Station, id: u16) -> Looked
 {
     let motors = st.motors;
     let i = taken_place(motors, id);
-    if i < 8 {
+    if i < MOTORS {
         let seen = motor::motor::look(motor_at(motors, i));
         return Looked {
             said: Checked::Passed,
@@ -222,7 +224,7 @@ pub fn look(st: Station, id: u16) -> Looked
 
 // The place is free again where the motor may go.
 fn removed_at(st: Station, i: usize, said: Checked) -> After
-    requires { ⌜ i < 8 ⌝ }
+    requires { ⌜ i < mostMotors ⌝ }
     ensures { λ r. ⌜ r ≡ removedAt said st i ⌝ }
 {
     match said {
@@ -238,7 +240,7 @@ pub fn remove(st: Station, id: u16, now: u64) -> After
 {
     let motors = st.motors;
     let i = taken_place(motors, id);
-    if i < 8 {
+    if i < MOTORS {
         let m = motor_at(motors, i);
         return removed_at(st, i, removal(m, now));
     }

@@ -10,6 +10,7 @@ use station::call::Asked;
 use station::call::Call;
 use station::call::Replied;
 use station::lent::call::call;
+use station::limits::MOTORS;
 ghost use Prim.Native.Nat.{_+_, _≤_, _<_};
 
 // How many frames are left, how many were not refused, and what the next one is.
@@ -51,7 +52,7 @@ fn next_beat(b: Beat, replied: Replied) -> Beat
 }
 
 // Frames until none is left.
-fn beats(motors: [Motor; 8], b: Beat) -> Beat
+fn beats(motors: [Motor; MOTORS], b: Beat) -> Beat
     ensures { λ r. ⌜ r .passed + r .left ≤ b .passed + b .left ⌝ }
 {
     let mut motors = motors;

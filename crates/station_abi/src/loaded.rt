@@ -2,6 +2,7 @@
 use codec::bus::CanFrame;
 use codec::protocol::CommunicationType;
 use codec::protocol::build_ext_id;
+use motor::limits::READINGS;
 use station::station::Station;
 use station::station::frame;
 use station::station::new;
@@ -14,7 +15,6 @@ const HOST: u8 = 0xFD;
 const FIRST: u16 = 0x3000;
 
 // The most readings that a motor holds.
-const READINGS: u16 = 96;
 
 // A frame of motor `id` to the host.
 fn frame_from(id: u16, comm_type: u32, data: [u8; 8]) -> CanFrame {

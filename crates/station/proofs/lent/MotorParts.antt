@@ -24,6 +24,7 @@ use Rattle.motor.specs.declared.motor.Motor.{Motor}
 use Rattle.motor.specs.declared.motor.State.{State}
 use Rattle.motor.specs.declared.readings.Reading.{Reading}
 use Rattle.motor.specs.declared.readings.Readings.{Readings}
+use Rattle.motor.specs.Limits.{mostRecords}
 use Rattle.motor.specs.Readings.{freeRecord, recAt, withNext, storedAt}
 use Rattle.motor.proofs.motor.Motor as motor-type
 use Rattle.motor.proofs.motor.Motor.Laws as motor-laws
@@ -76,10 +77,10 @@ small i l = omega (arith, l)
 pub size-fits : 1800 < 2 ^ 64
 size-fits = omega arith
 
-pub far-row : (k : ℕ) → k < 97 → k * 16 < 2 ^ 64
+pub far-row : (k : ℕ) → k < mostRecords → k * 16 < 2 ^ 64
 far-row k l = omega (arith, l)
 
-pub small-row : (k : ℕ) → k < 97 → k < 2 ^ 64
+pub small-row : (k : ℕ) → k < mostRecords → k < 2 ^ 64
 small-row k l = omega (arith, l)
 
 -- ---- machine values
@@ -89,7 +90,7 @@ readings-val m = LL.val readings-type.the-type readings-laws.the-laws (m .readin
 
 -- the machine values of the records
 abbrev cells : Motor → List Val
-cells m = structs.cells record-type.the-type record-laws.the-laws 97 (m .readings .records)
+cells m = structs.cells record-type.the-type record-laws.the-laws mostRecords (m .readings .records)
 
 -- a motor's value with other records
 abbrev with-cells : Motor → List Val → Val
@@ -100,7 +101,7 @@ abbrev Known : Motor → Type 0
 Known m = Is (thin.row motor) m (motor .val m ∷ [])
 
 abbrev Records : Readings → Type 0
-Records rs = Is (array-field (the-field record-type.the-type) 97 .row) (map (record-type.the-type .to) (rs .records)) (arrayVal (structs.cells record-type.the-type record-laws.the-laws 97 (rs .records)) ∷ [])
+Records rs = Is (array-field (the-field record-type.the-type) mostRecords .row) (map (record-type.the-type .to) (rs .records)) (arrayVal (structs.cells record-type.the-type record-laws.the-laws mostRecords (rs .records)) ∷ [])
 
 state-is : (m : Motor) → Known m → Is (thin.row state) (m .state) (state .val (m .state) ∷ [])
 state-is m is = LL.owed motor-type.the-type motor-laws.the-laws m _ is .0
@@ -116,10 +117,10 @@ known m s rs f = LL.owes motor-type.the-type motor-laws.the-laws m (s, (LL.owes 
 
 -- a record is stored
 record-put : (m : Motor) (k : ℕ) (x : Reading) → with-cells m (set (cells m) k (reading .val x)) ≡ motor .val (with-record m k x)
-record-put m k x = ap (λ (us : List Val). with-cells m us) (structs.cells-set record-type.the-type record-laws.the-laws 97 (m .readings .records) k x)
+record-put m k x = ap (λ (us : List Val). with-cells m us) (structs.cells-set record-type.the-type record-laws.the-laws mostRecords (m .readings .records) k x)
 
 record-made : (m : Motor) (k : ℕ) (x : Reading) → Known m → Is (thin.row reading) x (reading .val x ∷ []) → Known (with-record m k x)
-record-made m k x is x-is = known (with-record m k x) (state-is m is) (structs.set-is record-type.the-type record-laws.the-laws 97 (m .readings .records) _ k x (records-are m is) x-is) (free-is m is)
+record-made m k x is x-is = known (with-record m k x) (state-is m is) (structs.set-is record-type.the-type record-laws.the-laws mostRecords (m .readings .records) _ k x (records-are m is) x-is) (free-is m is)
 
 -- a record that goes on to n
 next-is : (x : Reading) (n : ℕ) → Is (thin.row reading) x (reading .val x ∷ []) → Is (thin.row (thin.uint w16)) n (vint w16 n ∷ []) → Is (thin.row reading) (on-to x n) (reading .val (on-to x n) ∷ [])
@@ -173,19 +174,19 @@ module _ {M : Type 1} (𝓤 : URA M) (H : Heap 𝓤) (A : Atoms 𝓤) (W : Given
   -- ---- a record, and a record's next
 
   -- record k of a motor's cell
-  record-cell : (q : Share) (b o : ℕ) (h : Motor) (k : ℕ) → Known h → k < 97
+  record-cell : (q : Share) (b o : ℕ) (h : Motor) (k : ℕ) → Known h → k < mostRecords
       → Part {𝓤 = 𝓤} {H = H} {A = A} (Go {0}) W (‵ (fat q (rawTy (motor .ty)) b o (motor .val h))) q (reading .ty) b (place 16 (o + 240 + 0) k) (reading .val (recAt (h .readings .records) k)) (λ u. ‵ (fat q (rawTy (motor .ty)) b o (with-cells h (set (cells h) k u))))
   record-cell q b o h k is l =
-      let len : length (cells h) ≡ 97 = structs.cells-length record-type.the-type record-laws.the-laws 97 (h .readings .records) _ (records-are h is) in
+      let len : length (cells h) ≡ mostRecords = structs.cells-length record-type.the-type record-laws.the-laws mostRecords (h .readings .records) _ (records-are h is) in
       subst (λ (v : Val). Part {𝓤 = 𝓤} {H = H} {A = A} (Go {0}) W (‵ (fat q (rawTy (motor .ty)) b o (motor .val h))) q (reading .ty) b (place 16 (o + 240 + 0) k) v (λ u. ‵ (fat q (rawTy (motor .ty)) b o (with-cells h (set (cells h) k u)))))
-      (structs.cell-at record-type.the-type record-laws.the-laws 97 (h .readings .records) k (freeRecord 0))
-      (lens.element 𝓤 H A W q (reading .ty) b (reading .val (freeRecord 0)) 97 (cells h) k len (subst (λ (m : ℕ). k < m) (sym len) l) (sub ! 0 refl (sub ! 1 refl (lens.whole-raw ! {τ = motor .ty} {v = motor .val h}))))
+      (structs.cell-at record-type.the-type record-laws.the-laws mostRecords (h .readings .records) k (freeRecord 0))
+      (lens.element 𝓤 H A W q (reading .ty) b (reading .val (freeRecord 0)) mostRecords (cells h) k len (subst (λ (m : ℕ). k < m) (sym len) l) (sub ! 0 refl (sub ! 1 refl (lens.whole-raw ! {τ = motor .ty} {v = motor .val h}))))
 
-  pub ones : lens.Rows 𝓤 H A W motor reading (reading .ty) 16 97 (field 1 ∷ field 0 ∷ []) [] with-record
+  pub ones : lens.Rows 𝓤 H A W motor reading (reading .ty) 16 mostRecords (field 1 ∷ field 0 ∷ []) [] with-record
   ones = record {
     base = λ o. o + 240 + 0;
     rest = λ o. o;
-    array = tyArray (reading .ty) 97;
+    array = tyArray (reading .ty) mostRecords;
     old = λ h k. reading .val (recAt (h .readings .records) k);
     upd = λ h k u. with-cells h (set (cells h) k u);
     way = λ b o. fld ! refl (fld ! refl (stop !));
@@ -195,11 +196,11 @@ module _ {M : Type 1} (𝓤 : URA M) (H : Heap 𝓤) (A : Atoms 𝓤) (W : Given
     made = λ h k x l is x-is. record-made h k x is x-is;
   }
 
-  pub links : lens.Rows 𝓤 H A W motor (thin.uint w16) (reading .ty) 16 97 (field 1 ∷ field 0 ∷ []) (field 2 ∷ []) with-next
+  pub links : lens.Rows 𝓤 H A W motor (thin.uint w16) (reading .ty) 16 mostRecords (field 1 ∷ field 0 ∷ []) (field 2 ∷ []) with-next
   links = record {
     base = λ o. o + 240 + 0;
     rest = λ o. o + 12;
-    array = tyArray (reading .ty) 97;
+    array = tyArray (reading .ty) mostRecords;
     old = λ h k. vint w16 (recAt (h .readings .records) k .next);
     upd = λ h k u. with-cells h (set (cells h) k (lens.with-field (reading .val (recAt (h .readings .records) k)) 2 u));
     way = λ b o. fld ! refl (fld ! refl (stop !));
@@ -208,5 +209,5 @@ module _ {M : Type 1} (𝓤 : URA M) (H : Heap 𝓤) (A : Atoms 𝓤) (W : Given
     put-is = λ h k x. record-put h k (on-to (recAt (h .readings .records) k) x);
     made = λ h k x l is x-is.
         record-made h k (on-to (recAt (h .readings .records) k) x) is
-        (next-is (recAt (h .readings .records) k) x (structs.element-is record-type.the-type record-laws.the-laws 97 (h .readings .records) _ k (freeRecord 0) (records-are h is) l) x-is);
+        (next-is (recAt (h .readings .records) k) x (structs.element-is record-type.the-type record-laws.the-laws mostRecords (h .readings .records) _ k (freeRecord 0) (records-are h is) l) x-is);
   }

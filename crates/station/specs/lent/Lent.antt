@@ -32,6 +32,7 @@ use Rattle.station.specs.declared.lent.visit.Visited.{Visited}
 use Rattle.station.specs.declared.lent.visit.Kept.{Kept}
 use Rattle.station.specs.declared.lent.visit.Edited.{Edited}
 use Rattle.station.specs.declared.station.Station.{Station}
+use Rattle.station.specs.Limits.{mostMotors}
 use Rattle.station.specs.Calls.{timeOf, reply, told, moved, refused}
 use Rattle.station.specs.Station.{source}
 use Rattle.station.specs.Stations.{freeMotor}
@@ -59,7 +60,7 @@ indexIn [] id = zero
 indexIn (x ∷ xs) id = cond (eqb x id) zero (suc (indexIn xs id))
 
 unfoldable pub takenIn : List ℕ → ℕ → ℕ
-takenIn ids id = cond (eqb id 0) 8 (indexIn ids id)
+takenIn ids id = cond (eqb id 0) mostMotors (indexIn ids id)
 
 abbrev pub routeAt : ℕ → Bool → Bool → Route
 routeAt i quiet edits = record { «at» = i; said = checked.Passed; quiet = quiet; edits = edits }
@@ -69,13 +70,13 @@ abbrev pub nowhere : Refusal → Route
 nowhere r = record { «at» = 0; said = checked.Refused r; quiet = true; edits = false }
 
 unfoldable pub routeTo : List ℕ → ℕ → Refusal → Bool → Bool → Route
-routeTo ids id r quiet edits = cond (ltb (takenIn ids id) 8) (routeAt (takenIn ids id) quiet edits) (nowhere r)
+routeTo ids id r quiet edits = cond (ltb (takenIn ids id) mostMotors) (routeAt (takenIn ids id) quiet edits) (nowhere r)
 
 -- 5, 4
 unfoldable pub routeFree : List ℕ → ℕ → Route
 routeFree ids id =
-    cond (ltb (takenIn ids id) 8) (nowhere refusal.IdRegistered)
-    (cond (ltb (indexIn ids 0) 8) (routeAt (indexIn ids 0) false false) (nowhere refusal.StationFull))
+    cond (ltb (takenIn ids id) mostMotors) (nowhere refusal.IdRegistered)
+    (cond (ltb (indexIn ids 0) mostMotors) (routeAt (indexIn ids 0) false false) (nowhere refusal.StationFull))
 
 abbrev pub routeNew : List ℕ → ℕ → Admission → Route
 routeNew ids id (admission.Admitted model) = routeFree ids id

@@ -8,12 +8,13 @@ use Rattle.codec.specs.declared.error.Refusal.the-variants as refusal
 use Rattle.motor.specs.declared.motor.Motor.{Motor}
 use Rattle.motor.specs.Motors.{lookOf}
 use Rattle.station.specs.declared.station.Looked.{Looked}
+use Rattle.station.specs.Limits.{mostMotors}
 use Rattle.station.specs.Stations.{freeMotor}
 use Rattle.station.specs.declared.lent.look.Spot.{Spot}
 use Rattle.station.specs.lent.Lent.{takenIn}
 
 unfoldable pub spotIn : List ℕ → ℕ → Spot
-spotIn ids id = cond (ltb (takenIn ids id) 8) (record { «at» = takenIn ids id; taken = true }) (record { «at» = 0; taken = false })
+spotIn ids id = cond (ltb (takenIn ids id) mostMotors) (record { «at» = takenIn ids id; taken = true }) (record { «at» = 0; taken = false })
 
 -- 6
 unfoldable pub lookedAt : Motor → Spot → Looked

@@ -5,6 +5,7 @@ use crate::lent::route::routed;
 use crate::lent::visit::edited_at;
 use crate::lent::visit::kept_at;
 use crate::lent::visit::visited_at;
+use crate::limits::MOTORS;
 use motor::motor::Motor;
 ghost use mathlib.Core.Path.{_≡_};
 ghost use Rattle.station.specs.Stations.{callIn};
@@ -14,7 +15,7 @@ ghost use Rattle.station.specs.lent.Lent.{stationOf};
 // shows is `look`'s. A quiet call
 // copies the state of one motor out and stores it back; one that edits copies one motor out and stores its state, and of its
 // readings what changes; any other copies one motor out and stores it back.
-pub fn call(motors: &mut [Motor; 8], asked: Asked) -> Replied
+pub fn call(motors: &mut [Motor; MOTORS], asked: Asked) -> Replied
     ensures { λ r. ⌜ (r ≡ callIn (stationOf (now (motors .entry))) asked .replied) × (stationOf (now (motors .exit)) ≡ callIn (stationOf (now (motors .entry))) asked .station) ⌝ }
 {
     let ids = [

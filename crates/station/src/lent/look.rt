@@ -1,5 +1,6 @@
 // A look on a station that is lent: the motor of an id is copied out where it lies, and nothing is stored.
 use crate::lent::route::taken_in;
+use crate::limits::MOTORS;
 use crate::place::free_motor;
 use crate::station::Looked;
 use codec::error::Checked;
@@ -7,6 +8,7 @@ use codec::error::Refusal;
 use motor::motor::Motor;
 ghost use mathlib.Core.Path.{_≡_};
 ghost use Prim.Native.Nat.{_<_};
+ghost use Rattle.station.specs.Limits.{mostMotors};
 ghost use Rattle.station.specs.Stations.{lookIn};
 ghost use Rattle.station.specs.lent.Lent.{stationOf};
 ghost use Rattle.station.specs.lent.Looking as spec;
@@ -17,11 +19,11 @@ struct Spot {
     taken: bool,
 }
 
-fn spot_in(ids: [u16; 8], id: u16) -> Spot
-    ensures { λ r. ⌜ (r ≡ spec.spotIn ids id) × (r .at < 8) ⌝ }
+fn spot_in(ids: [u16; MOTORS], id: u16) -> Spot
+    ensures { λ r. ⌜ (r ≡ spec.spotIn ids id) × (r .at < mostMotors) ⌝ }
 {
     let at = taken_in(ids, id);
-    if at < 8 {
+    if at < MOTORS {
         return Spot { at, taken: true };
     }
     Spot {
@@ -49,7 +51,7 @@ fn looked_at(m: Motor, spot: Spot) -> Looked
 }
 
 // A look on a lent station: the eight places. The answer is that of the by-value look; one motor is copied.
-pub fn look(motors: &mut [Motor; 8], id: u16) -> Looked
+pub fn look(motors: &mut [Motor; MOTORS], id: u16) -> Looked
     ensures { λ r. ⌜ (r ≡ lookIn (stationOf (now (motors .entry))) id) × (now (motors .exit) ≡ now (motors .entry)) ⌝ }
 {
     let ids = [

@@ -1,6 +1,7 @@
 // Where a call on a lent station goes.
 use crate::call::Asked;
 use crate::call::Call;
+use crate::limits::MOTORS;
 use crate::station::source_of;
 use codec::bus::CanFrame;
 use codec::error::Checked;
@@ -11,6 +12,7 @@ use motor::registration::Admission;
 use motor::registration::registration_of;
 ghost use mathlib.Core.Path.{_≡_};
 ghost use Prim.Native.Nat.{_<_};
+ghost use Rattle.station.specs.Limits.{mostMotors};
 ghost use Rattle.station.specs.lent.Lent as spec;
 
 // The place, and whether the call has passed what is tested before any motor takes it. A quiet call concerns no reading; one that
@@ -23,32 +25,32 @@ pub struct Route {
 }
 
 // The first place of an id among the places' ids, 8 where there is none. That of 0 is the first free place.
-fn place_in(ids: [u16; 8], id: u16) -> usize
+fn place_in(ids: [u16; MOTORS], id: u16) -> usize
     ensures { λ r. ⌜ r ≡ spec.indexIn ids id ⌝ }
 {
     let mut i: usize = 0;
-    while i < 8 {
+    while i < MOTORS {
         if ids[i] == id {
             return i;
         }
         i += 1;
     }
-    8
+    MOTORS
 }
 
 // The place of a registered motor, 8 where the id isn't registered.
-pub(super) fn taken_in(ids: [u16; 8], id: u16) -> usize
+pub(super) fn taken_in(ids: [u16; MOTORS], id: u16) -> usize
     ensures { λ r. ⌜ r ≡ spec.takenIn ids id ⌝ }
 {
     if id == 0 {
-        return 8;
+        return MOTORS;
     }
     place_in(ids, id)
 }
 
 fn route_at(at: usize, quiet: bool, edits: bool) -> Route
-    requires { ⌜ at < 8 ⌝ }
-    ensures { λ r. ⌜ (r ≡ spec.routeAt at quiet edits) × (r .at < 8) ⌝ }
+    requires { ⌜ at < mostMotors ⌝ }
+    ensures { λ r. ⌜ (r ≡ spec.routeAt at quiet edits) × (r .at < mostMotors) ⌝ }
 {
     Route {
         at,
@@ -59,7 +61,7 @@ fn route_at(at: usize, quiet: bool, edits: bool) -> Route
 }
 
 fn nowhere(refusal: Refusal) -> Route
-    ensures { λ r. ⌜ (r ≡ spec.nowhere refusal) × (r .at < 8) ⌝ }
+    ensures { λ r. ⌜ (r ≡ spec.nowhere refusal) × (r .at < mostMotors) ⌝ }
 {
     Route {
         at: 0,
@@ -70,32 +72,32 @@ fn nowhere(refusal: Refusal) -> Route
 }
 
 // To the place of a registered motor, else refused.
-fn route_to(ids: [u16; 8], id: u16, refusal: Refusal, quiet: bool, edits: bool) -> Route
-    ensures { λ r. ⌜ (r ≡ spec.routeTo ids id refusal quiet edits) × (r .at < 8) ⌝ }
+fn route_to(ids: [u16; MOTORS], id: u16, refusal: Refusal, quiet: bool, edits: bool) -> Route
+    ensures { λ r. ⌜ (r ≡ spec.routeTo ids id refusal quiet edits) × (r .at < mostMotors) ⌝ }
 {
     let i = taken_in(ids, id);
-    if i < 8 {
+    if i < MOTORS {
         return route_at(i, quiet, edits);
     }
     nowhere(refusal)
 }
 
 // 5 and 4; else to the first free place.
-fn route_free(ids: [u16; 8], id: u16) -> Route
-    ensures { λ r. ⌜ (r ≡ spec.routeFree ids id) × (r .at < 8) ⌝ }
+fn route_free(ids: [u16; MOTORS], id: u16) -> Route
+    ensures { λ r. ⌜ (r ≡ spec.routeFree ids id) × (r .at < mostMotors) ⌝ }
 {
-    if taken_in(ids, id) < 8 {
+    if taken_in(ids, id) < MOTORS {
         return nowhere(Refusal::IdRegistered);
     }
     let i = place_in(ids, 0);
-    if i < 8 {
+    if i < MOTORS {
         return route_at(i, false, false);
     }
     nowhere(Refusal::StationFull)
 }
 
-fn route_new(ids: [u16; 8], id: u16, admission: Admission) -> Route
-    ensures { λ r. ⌜ (r ≡ spec.routeNew ids id admission) × (r .at < 8) ⌝ }
+fn route_new(ids: [u16; MOTORS], id: u16, admission: Admission) -> Route
+    ensures { λ r. ⌜ (r ≡ spec.routeNew ids id admission) × (r .at < mostMotors) ⌝ }
 {
     match admission {
         Admission::Admitted(_) => route_free(ids, id),
@@ -104,8 +106,8 @@ fn route_new(ids: [u16; 8], id: u16, admission: Admission) -> Route
 }
 
 // 13; else to the motor that the frame comes from.
-fn route_frame(ids: [u16; 8], frame: CanFrame) -> Route
-    ensures { λ r. ⌜ (r ≡ spec.routeFrame ids frame) × (r .at < 8) ⌝ }
+fn route_frame(ids: [u16; MOTORS], frame: CanFrame) -> Route
+    ensures { λ r. ⌜ (r ≡ spec.routeFrame ids frame) × (r .at < mostMotors) ⌝ }
 {
     let id = source_of(frame);
     if accepts_frame(id, frame) {
@@ -116,8 +118,8 @@ fn route_frame(ids: [u16; 8], frame: CanFrame) -> Route
 }
 
 // Where a call goes, by the places' ids.
-pub(super) fn routed(ids: [u16; 8], asked: Asked) -> Route
-    ensures { λ r. ⌜ (r ≡ spec.routeOf ids asked) × (r .at < 8) ⌝ }
+pub(super) fn routed(ids: [u16; MOTORS], asked: Asked) -> Route
+    ensures { λ r. ⌜ (r ≡ spec.routeOf ids asked) × (r .at < mostMotors) ⌝ }
 {
     let call = asked.call;
     match call {

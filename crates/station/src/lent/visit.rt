@@ -27,6 +27,7 @@ use motor::receive::process_feedback_frame;
 ghost use mathlib.Core.Path.{_≡_};
 ghost use Prim.Native.Nat.{_<_};
 ghost use Rattle.station.specs.lent.Lent as spec;
+ghost use Rattle.motor.specs.Limits.{mostRecords};
 
 // A motor and the reply.
 pub struct Visited {
@@ -164,7 +165,7 @@ pub(super) fn kept_at(s: State, asked: Asked, route: Route) -> Kept
 
 // A read reply at its place.
 pub(super) fn edited_at(m: Motor, asked: Asked) -> Edited
-    ensures { λ r. ⌜ (r ≡ spec.editedOf m asked) × (r .edit .first < 97) × (r .edit .second < 97) ⌝ }
+    ensures { λ r. ⌜ (r ≡ spec.editedOf m asked) × (r .edit .first < mostRecords) × (r .edit .second < mostRecords) ⌝ }
 {
     let call = asked.call;
     let h = hear_read(m, asked.frame, time_of(call));

@@ -33,6 +33,7 @@ use Rattle.motor.proofs.readings.Reading as record-type
 use Rattle.motor.proofs.readings.Reading.Laws as record-laws
 use Rattle.motor.proofs.edits.Edit as edit-type
 use Rattle.motor.proofs.edits.Edit.Laws as edit-laws
+use Rattle.motor.specs.Limits.{mostRecords}
 use Rattle.motor.specs.Edits.{edited as edited-in}
 use Rattle.walks.proofs.ThinWalk as thin
 use Rattle.station.specs.declared.call.Asked.{Asked}
@@ -92,7 +93,7 @@ abbrev the-code : Fn
 the-code =
     walk.code motor state reading asked replied said route-type.the-row kept-type.the-row visited-type.the-row edited-type.the-row (route-type.the-type .name) (kept-type.the-type .name) (visited-type.the-type .name) (edited-type.the-type .name) (edit-type.the-type .name)
     (λ r. r .«at») (λ r. r .said) (λ r. r .quiet) (λ r. r .edits) (λ v. v .state) (λ v. v .replied) (λ v. v .motor) (λ v. v .replied) (λ v. v .state) (λ v. v .edit .first) (λ v. v .edit .second) (λ v. v .edit .link) (λ v. v .edit .free) (λ v. v .edit .one) (λ v. v .replied)
-    (field 0 ∷ field 0 ∷ []) (field 0 ∷ []) (field 1 ∷ field 0 ∷ []) (field 2 ∷ []) (field 1 ∷ field 1 ∷ []) 16 97 freeMotor ident (λ m. m .state) with-state with-record with-next with-free routeOf keptOf visitedOf editedOf
+    (field 0 ∷ field 0 ∷ []) (field 0 ∷ []) (field 1 ∷ field 0 ∷ []) (field 2 ∷ []) (field 1 ∷ field 1 ∷ []) 16 mostRecords freeMotor ident (λ m. m .state) with-state with-record with-next with-free routeOf keptOf visitedOf editedOf
     routed-def.name kept-def.name edited-def.name visited-def.name
 
 code-is : code.function ≡ the-code
@@ -160,8 +161,8 @@ module _ {M : Type 1} (𝓤 : URA M) (H : Heap 𝓤) (A : Atoms 𝓤) (at-mem : 
   abbrev edited-ensures : Motor → Asked → Edited → SProp 𝓤
   edited-ensures m a v = edited.spec 𝓤 H A at-mem run tt (m, (a, tt)) .ensures tt v
 
-  edited-said : (m : Motor) (a : Asked) (v : Edited) → ent 𝓤 (edited-ensures m a v) (fact 𝓤 ((v ≡ editedOf m a) × (v .edit .first < 97) × (v .edit .second < 97)))
-  edited-said m a v = exE 𝓤 _ (λ ws. snd∗ 𝓤 (sem 𝓤 H A (lasts edited.ended tt (m, (a, tt)) ws)) (fact 𝓤 ((v ≡ editedOf m a) × (v .edit .first < 97) × (v .edit .second < 97))))
+  edited-said : (m : Motor) (a : Asked) (v : Edited) → ent 𝓤 (edited-ensures m a v) (fact 𝓤 ((v ≡ editedOf m a) × (v .edit .first < mostRecords) × (v .edit .second < mostRecords)))
+  edited-said m a v = exE 𝓤 _ (λ ws. snd∗ 𝓤 (sem 𝓤 H A (lasts edited.ended tt (m, (a, tt)) ws)) (fact 𝓤 ((v ≡ editedOf m a) × (v .edit .first < mostRecords) × (v .edit .second < mostRecords))))
 
   abbrev promised : Lfts 1 → RefT (List Motor) → Asked → Replied → RefT (List Motor) → SProp 𝓤
   promised κs m a y end = own.clauses 𝓤 H A at-mem run κs (m, (a, tt)) .ensures tt y (end, (a, tt))
@@ -191,7 +192,7 @@ module _ {M : Type 1} (𝓤 : URA M) (H : Heap 𝓤) (A : Atoms 𝓤) (at-mem : 
       subst (λ (f : Fn). Meets 𝓤 H A own.signature (WpFn 𝓤 H (𝓣 .C) (𝓣 .Λ) f) (own.spec 𝓤 H A at-mem run)) (sym code-is)
       (walk.meets motor state reading asked replied said route-type.the-row kept-type.the-row visited-type.the-row edited-type.the-row (route-type.the-type .name) (kept-type.the-type .name) (visited-type.the-type .name) (edited-type.the-type .name) (edit-type.the-type .name)
       (λ r. r .«at») (λ r. r .said) (λ r. r .quiet) (λ r. r .edits) (λ v. v .state) (λ v. v .replied) (λ v. v .motor) (λ v. v .replied) (λ v. v .state) (λ v. v .edit .first) (λ v. v .edit .second) (λ v. v .edit .link) (λ v. v .edit .free) (λ v. v .edit .one) (λ v. v .replied)
-      (field 0 ∷ field 0 ∷ []) (field 0 ∷ []) (field 1 ∷ field 0 ∷ []) (field 2 ∷ []) (field 1 ∷ field 1 ∷ []) 16 97 freeMotor ident (λ m. m .state) with-state with-record with-next with-free routeOf keptOf visitedOf editedOf
+      (field 0 ∷ field 0 ∷ []) (field 0 ∷ []) (field 1 ∷ field 0 ∷ []) (field 2 ∷ []) (field 1 ∷ field 1 ∷ []) 16 mostRecords freeMotor ident (λ m. m .state) with-state with-record with-next with-free routeOf keptOf visitedOf editedOf
       𝓤 H A promised routed-ensures kept-ensures visited-ensures edited-ensures W size-fits far small tt far-row small-row routed-said kept-said visited-said edited-said
       (thin.struct-known 𝓤 H A W motor-type.the-type motor-laws.the-laws motor-laws.the-plain) (thin.struct-known 𝓤 H A W state-type.the-type state-laws.the-laws state-laws.the-plain) (thin.struct-known 𝓤 H A W record-type.the-type record-laws.the-laws record-laws.the-plain)
       (thin.struct-known 𝓤 H A W asked-type.the-type asked-laws.the-laws asked-laws.the-plain) (thin.struct-known 𝓤 H A W replied-type.the-type replied-laws.the-laws replied-laws.the-plain)
