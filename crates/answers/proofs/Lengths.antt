@@ -22,7 +22,7 @@ use Rattle.codec.specs.declared.model.Model.{Model}
 use Rattle.codec.specs.declared.model.Model.the-variants as model
 use Rattle.codec.specs.declared.protocol.ParameterValue.{ParameterValue}
 use Rattle.codec.specs.declared.protocol.ParameterValue.the-variants as value
-use Rattle.codec.specs.Models.{nameOf}
+use Rattle.codec.specs.Models.{modelText}
 use Rattle.codec.specs.Refusals.{Carried, nothing, statusOf, lastRead, rowOf, numberOf}
 use Rattle.motor.specs.declared.engine.command.Command.{Command}
 use Rattle.motor.specs.declared.engine.command.Outcome.{Outcome}
@@ -51,9 +51,9 @@ use Rattle.text.specs.Words.{wordAt}
 use Rattle.text.proofs.TextLengths.{Short, words, none, wider, _&_, either, digits-short, decimal-short, widthsOf, fields-short, word-short, wordsUpto, words-few}
 use Rattle.answers.specs.Values.{namedText, lineText, endOfLine, space, valueText, signedText, payloadNumber}
 use Rattle.answers.specs.Names.{modePlace, commandPlace}
-use Rattle.answers.specs.Said.{okText, lastText, carriedText, refusedText, toldText, stampText, frameText, pingText, outcomeText, finishedText, sentText, lastLine, saidText}
-use Rattle.answers.specs.Looks.{motorText, stateText, feedbackText, reportText, faultText, heldPingText, gainsText, runningText, heldText, readingText, readingsUpto, readingsText, seenText, lookedBy, lookedText, least}
-use Rattle.answers.specs.Flags.{flagText, flagsUpto, flagsText, stateFlags, faultFlags, warningFlags}
+use Rattle.answers.specs.Said.{okText, lastText, valuesText, refusedText, toldText, stampText, frameText, pingText, outcomeText, finishedText, sentText, lastLine, saidText}
+use Rattle.answers.specs.Looks.{motorText, toldStateText, feedbackText, reportText, faultText, heldPingText, gainsText, runningText, stateText, readingText, readingsUpto, readingsText, seenText, lookedBy, lookedText, least}
+use Rattle.answers.specs.Flags.{flagText, flagsUpto, flagsText, stateFlagsText, faultFlagsText, warningFlagsText}
 
 -- ---- flags
 
@@ -72,16 +72,16 @@ flags-short bits names n =
     either (eqb bits 0) (wider (words (0x2D ∷ [])) (omega arith))
     (either (ltb 16 n) none (wider (flags-upto bits names n) (omega (arith, words-few names n))))
 
-state-flags-short : (s : MotorFeedbackState) → Short (stateFlags s) 89
-unfolding stateFlags
+state-flags-short : (s : MotorFeedbackState) → Short (stateFlagsText s) 89
+unfolding stateFlagsText
 state-flags-short s = flags-short _ _ _
 
-fault-flags-short : (f : FaultFlags) → Short (faultFlags f) 199
-unfolding faultFlags
+fault-flags-short : (f : FaultFlags) → Short (faultFlagsText f) 199
+unfolding faultFlagsText
 fault-flags-short f = flags-short _ _ _
 
-warning-flags-short : (w : WarningFlags) → Short (warningFlags w) 25
-unfolding warningFlags
+warning-flags-short : (w : WarningFlags) → Short (warningFlagsText w) 25
+unfolding warningFlagsText
 warning-flags-short w = flags-short _ _ _
 
 -- ---- values, and what is said
@@ -110,8 +110,8 @@ unfolding lastText
 last-short last.Unread = wider (words (ascii " none")) (omega arith)
 last-short (last.Read v) = words space & signed-short v
 
-carried-short : (c : Carried) → Short (carriedText c) 22
-unfolding carriedText
+carried-short : (c : Carried) → Short (valuesText c) 22
+unfolding valuesText
 carried-short nothing = none
 carried-short (statusOf id status) = wider (fields-short _ (ascii "42")) (omega arith)
 carried-short (lastRead l) = last-short l
@@ -171,7 +171,7 @@ said-fits s f result time = sent-short s f time & last-line-short s result
 
 -- ---- looks
 
-model-short : (m : Model) → Short (nameOf m) 7
+model-short : (m : Model) → Short (modelText m) 7
 model-short model.Rs00 = wider (words _) (omega arith)
 model-short model.Rs01 = wider (words _) (omega arith)
 model-short model.Rs02 = wider (words _) (omega arith)
@@ -187,7 +187,7 @@ motor-short id host m wait =
     words (ascii "motor") & fields-short _ (ascii "22") & words space & model-short m & line-short [] wait (ascii "D")
 
 feedback-short : (l : Latest) → Short (feedbackText l) 149
-unfolding feedbackText stateText
+unfolding feedbackText toldStateText
 feedback-short latest.Nothing = wider (words (ascii "feedback none\n")) (omega arith)
 feedback-short (latest.State s) =
     words (ascii "feedback") & fields-short _ (ascii "8218888") & words space & state-flags-short s & words endOfLine
@@ -213,8 +213,8 @@ running-short op c =
     either (isIdle (op .phase)) (wider (words (ascii "running none\n")) (omega arith))
     (wider (words (ascii "running ") & word-short commands (2 * commandPlace c) & line-short (ascii " due") (op .due) (ascii "D")) (omega arith))
 
-held-short : (s : State) → Short (heldText s) 1380
-unfolding heldText
+held-short : (s : State) → Short (stateText s) 1380
+unfolding stateText
 held-short s =
     motor-short _ _ _ _ & line-short (ascii "clock") (s .clock) (ascii "D")
     & line-short (ascii "responses") (s .responses) (ascii "D") & line-short (ascii "sequence") (s .feedback .sequence) (ascii "D")

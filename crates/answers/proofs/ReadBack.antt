@@ -13,19 +13,19 @@ use Rattle.motor.specs.declared.engine.command.Command.{Command}
 use Rattle.motor.specs.declared.engine.command.Command.the-variants as command
 use Rattle.text.specs.declared.numbers.Num.the-variants.{Value}
 use Rattle.text.specs.Ascii.{ascii}
-use Rattle.text.specs.Numbers.{inBase, readFrom}
-use Rattle.text.specs.Put.{glyphOf, digitsOf, decimalIn}
-use Rattle.text.specs.Words.{wordsIn, wordAt, whichOf, sameBytes}
+use Rattle.text.specs.Numbers.{digitsIn, readFrom}
+use Rattle.text.specs.Put.{glyphOf, digitsText, decimalIn}
+use Rattle.text.specs.Words.{wordCount, wordAt, whichOf, sameBytes}
 use Rattle.text.proofs.Reading.{some}
 use Rattle.text.proofs.ReadBack.{glyph-range, read-glyph, read-digits, digits-length, digits-back, decimal-some, decimal-back, index-past, free-append, digits-free, decimal-free, word-first, word-later, word-only, words-past}
 use Rattle.session.specs.declared.event.Event.{Event}
 use Rattle.session.specs.declared.event.Event.the-variants as event
 use Rattle.session.specs.Table.{commands, placeOf}
-use Rattle.session.specs.Commands.{commandAt, driven, parameterCall, startedBy, started}
-use Rattle.session.specs.Heard.{millisecondsOf, stampIn, stampOf, shiftedBy, dataIn, dataFrame, frameIn, heardIn}
+use Rattle.session.specs.Commands.{commandOf, driven, parameterOf, startedBy, started}
+use Rattle.session.specs.Heard.{millisecondsOf, stampIn, stampOf, shiftedBy, dataOf, dataFrame, loggedFrame, heardIn}
 use Rattle.session.specs.Lines.{readLine}
 use Rattle.answers.specs.Values.{payloadNumber}
-use Rattle.answers.specs.Names.{commandPlace, commandName}
+use Rattle.answers.specs.Names.{commandPlace, commandText}
 use Rattle.answers.specs.Said.{stampText, frameLine, frameText}
 use Rattle.answers.proofs.Lengths.{frame-short}
 
@@ -34,11 +34,11 @@ use Rattle.answers.proofs.Lengths.{frame-short}
 -- the name is found in its row, and a command of that row has the name
 abbrev Row : Command → List ℕ → Type 0
 Row c v =
-    (placeOf commands (commandName c) ≡ 2 * commandPlace c)
-    × (commandPlace (commandAt (commandPlace c) v) ≡ commandPlace c)
+    (placeOf commands (commandText c) ≡ 2 * commandPlace c)
+    × (commandPlace (commandOf (commandPlace c) v) ≡ commandPlace c)
 
 row : (c : Command) (v : List ℕ) → Row c v
-unfolding placeOf whichOf wordsIn wordAt sameBytes indexOf indexAfter commandPlace commandAt driven parameterCall
+unfolding placeOf whichOf wordCount wordAt sameBytes indexOf indexAfter commandPlace commandOf driven parameterOf
 row (command.Ping t) v = (refl, refl)
 row (command.PingWithHostId h t) v = (refl, refl)
 row (command.SetMode m) v = (refl, refl)
@@ -66,7 +66,7 @@ row (command.GetParameterF32 id t) v = (refl, refl)
 row (command.GetParameterI8 id t) v = (refl, refl)
 
 -- a start with the name that is printed for a command is read as its row says
-pub command-read-back : (c : Command) (line : List ℕ) → wordAt line 3 ≡ commandName c
+pub command-read-back : (c : Command) (line : List ℕ) → wordAt line 3 ≡ commandText c
     → started line ≡ startedBy line (wordAt commands (2 * commandPlace c + 1)) (commandPlace c)
 unfolding started
 command-read-back c line e =
@@ -74,7 +74,7 @@ command-read-back c line e =
     rw (e, row c [] .0, ne-eqb (2 * commandPlace c % 2) 1 (λ h. omega arith), half)
 
 -- and the command that it starts is printed by the same name
-pub same-name : (c : Command) (v : List ℕ) → commandName (commandAt (commandPlace c) v) ≡ commandName c
+pub same-name : (c : Command) (v : List ℕ) → commandText (commandOf (commandPlace c) v) ≡ commandText c
 same-name c v = rw (row c v .1)
 
 -- ---- frames: the stamp
@@ -83,12 +83,12 @@ abbrev stampWord : List ℕ → List ℕ → List ℕ
 stampWord seconds micros = 40 ∷ (seconds ++ 46 ∷ (micros ++ 41 ∷ []))
 
 stamp-at : (w : List ℕ) (n : ℕ) (seconds micros : List ℕ) → 10 ≤ n → getD w (n - 1) 0 ≡ 41 → getD w (n - 8) 0 ≡ 46
-    → take (n - 9) (drop 1 w) ≡ seconds → take 6 (drop (n - 7) w) ≡ micros → stampIn w n ≡ millisecondsOf (inBase 10 seconds) (inBase 10 micros)
+    → take (n - 9) (drop 1 w) ≡ seconds → take 6 (drop (n - 7) w) ≡ micros → stampIn w n ≡ millisecondsOf (digitsIn 10 seconds) (digitsIn 10 micros)
 unfolding stampIn
 stamp-at w n seconds micros h a b c d = rw (le-ltb _ _ h, a, b, c, d)
 
 stamp-word : (seconds micros : List ℕ) → 0 < length seconds → length micros ≡ 6
-    → stampOf (stampWord seconds micros) ≡ millisecondsOf (inBase 10 seconds) (inBase 10 micros)
+    → stampOf (stampWord seconds micros) ≡ millisecondsOf (digitsIn 10 seconds) (digitsIn 10 micros)
 stamp-word s m h six =
     let n : length (stampWord s m) ≡ length s + 9 = simp length-append (omega arith) in
     let e : stampWord s m ≡ (40 ∷ (s ++ 46 ∷ m)) ++ 41 ∷ [] = simp append-assoc in
@@ -104,9 +104,9 @@ stamp-word s m h six =
     ap (λ (k : ℕ). stampIn (stampWord s m) k) n ∙ stamp-at (stampWord s m) (length s + 9) s m (omega arith) close point before after
 
 abbrev microsOf : ℕ → List ℕ
-microsOf millis = digitsOf 10 3 millis ++ 48 ∷ 48 ∷ 48 ∷ []
+microsOf millis = digitsText 10 3 millis ++ 48 ∷ 48 ∷ 48 ∷ []
 
-micros-back : (n : ℕ) → n < 1000 → inBase 10 (microsOf n) ≡ Value (n * 1000)
+micros-back : (n : ℕ) → n < 1000 → digitsIn 10 (microsOf n) ≡ Value (n * 1000)
 unfolding readFrom glyphOf
 micros-back n h =
     let z : ((n * 10 + 0) * 10 + 0) * 10 + 0 ≡ n * 1000 = omega arith in
@@ -131,36 +131,36 @@ stamp-free : (time : ℕ) → indexOf 32 (stampOfTime time) ≡ length (stampOfT
 unfolding indexOf indexAfter
 stamp-free time =
     free-append 32 (40 ∷ decimalIn 20 (time / 1000)) (46 ∷ (microsOf (time % 1000) ++ 41 ∷ [])) (ap suc (decimal-free 32 20 (time / 1000) (omega arith)))
-    (ap suc (free-append 32 (microsOf (time % 1000)) (41 ∷ []) (free-append 32 (digitsOf 10 3 (time % 1000)) (48 ∷ 48 ∷ 48 ∷ []) (digits-free 32 10 3 (time % 1000) (omega arith) (omega arith) (omega arith)) refl) refl))
+    (ap suc (free-append 32 (microsOf (time % 1000)) (41 ∷ []) (free-append 32 (digitsText 10 3 (time % 1000)) (48 ∷ 48 ∷ 48 ∷ []) (digits-free 32 10 3 (time % 1000) (omega arith) (omega arith) (omega arith)) refl) refl))
 
 -- ---- frames: ID#DATA
 
 abbrev frameWord : ℕ → ℕ → List ℕ
-frameWord id n = digitsOf 16 8 id ++ 35 ∷ digitsOf 16 16 n
+frameWord id n = digitsText 16 8 id ++ 35 ∷ digitsText 16 16 n
 
-data-at : (d : List ℕ) (time id n : ℕ) → length d ≡ 16 → 48 ≤ getD d 0 0 → getD d 0 0 ≤ 70 → inBase 16 d ≡ Value n
+data-at : (d : List ℕ) (time id n : ℕ) → length d ≡ 16 → 48 ≤ getD d 0 0 → getD d 0 0 ≤ 70 → digitsIn 16 d ≡ Value n
     → dataFrame d time id true ≡ hands (canFrame id n true 8 true) time
-unfolding dataFrame dataIn shiftedBy
+unfolding dataFrame dataOf shiftedBy
 data-at d time id n l a b r =
     rw (l, ne-eqb (getD d 0 0) 0x52 (λ e. omega arith), ne-eqb (getD d 0 0) 0x23 (λ e. omega arith), r)
 
 frame-at : (w h d : List ℕ) (time id n : ℕ) → indexOf 0x23 w ≡ 8 → 8 < length w → take 8 w ≡ h → drop 9 w ≡ d
-    → length h ≡ 8 → inBase 16 h ≡ Value id → id ≤ 0x1FFF_FFFF → dataFrame d time id true ≡ hands (canFrame id n true 8 true) time
-    → frameIn w time ≡ hands (canFrame id n true 8 true) time
-unfolding frameIn
+    → length h ≡ 8 → digitsIn 16 h ≡ Value id → id ≤ 0x1FFF_FFFF → dataFrame d time id true ≡ hands (canFrame id n true 8 true) time
+    → loggedFrame w time ≡ hands (canFrame id n true 8 true) time
+unfolding loggedFrame
 frame-at w h d time id n i l t r k v s e =
     let m : id % 2 ^ 32 ≡ id = omega arith in
     rw (i, lt-leb _ _ l, t, r, k, v, le-ltb _ _ s, m) e
 
-first-digit : (n : ℕ) → (48 ≤ getD (digitsOf 16 16 n) 0 0) × (getD (digitsOf 16 16 n) 0 0 ≤ 70)
-unfolding digitsOf
+first-digit : (n : ℕ) → (48 ≤ getD (digitsText 16 16 n) 0 0) × (getD (digitsText 16 16 n) 0 0 ≤ 70)
+unfolding digitsText
 first-digit n = glyph-range _ (omega arith)
 
-frame-back : (time id n : ℕ) → id ≤ 0x1FFF_FFFF → n < 18446744073709551616 → frameIn (frameWord id n) time ≡ hands (canFrame id n true 8 true) time
+frame-back : (time id n : ℕ) → id ≤ 0x1FFF_FFFF → n < 18446744073709551616 → loggedFrame (frameWord id n) time ≡ hands (canFrame id n true 8 true) time
 unfolding indexOf indexAfter
 frame-back time id n s w =
-    let a = digitsOf 16 8 id in
-    let d = digitsOf 16 16 n in
+    let a = digitsText 16 8 id in
+    let d = digitsText 16 16 n in
     let i : indexOf 0x23 (frameWord id n) ≡ 8
     = index-past 0x23 a (35 ∷ d) (digits-free 0x23 16 8 id (omega arith) (omega arith) (omega arith)) ∙ rw digits-length in
     let l : 8 < length (frameWord id n) = rw (length-append, digits-length 16 8 id) (omega arith) in
@@ -174,13 +174,13 @@ frame-back time id n s w =
 frame-free : (id n : ℕ) → indexOf 32 (frameWord id n) ≡ length (frameWord id n)
 unfolding indexOf indexAfter
 frame-free id n =
-    free-append 32 (digitsOf 16 8 id) (35 ∷ digitsOf 16 16 n) (digits-free 32 16 8 id (omega arith) (omega arith) (omega arith))
+    free-append 32 (digitsText 16 8 id) (35 ∷ digitsText 16 16 n) (digits-free 32 16 8 id (omega arith) (omega arith) (omega arith))
     (ap suc (digits-free 32 16 16 n (omega arith) (omega arith) (omega arith)))
 
 -- ---- frames: the line
 
-heard-at : (line w f : List ℕ) (time : ℕ) → wordsIn line ≡ 3 → length (wordAt line 1) ≡ 4 → wordAt line 0 ≡ w → wordAt line 2 ≡ f
-    → stampOf w ≡ Value time → heardIn line ≡ frameIn f time
+heard-at : (line w f : List ℕ) (time : ℕ) → wordCount line ≡ 3 → length (wordAt line 1) ≡ 4 → wordAt line 0 ≡ w → wordAt line 2 ≡ f
+    → stampOf w ≡ Value time → heardIn line ≡ loggedFrame f time
 unfolding heardIn
 heard-at line w f time n l a b s = rw (n, l, a, b, s)
 
@@ -188,10 +188,10 @@ abbrev logLine : List ℕ → List ℕ → List ℕ
 logLine w f = w ++ 32 ∷ (ascii "can0" ++ 32 ∷ f)
 
 heard-back : (w f : List ℕ) (time : ℕ) → indexOf 32 w ≡ length w → indexOf 32 f ≡ length f → stampOf w ≡ Value time
-    → heardIn (logLine w f) ≡ frameIn f time
-unfolding wordsIn wordAt indexOf indexAfter
+    → heardIn (logLine w f) ≡ loggedFrame f time
+unfolding wordCount wordAt indexOf indexAfter
 heard-back w f time a b s =
-    let one : wordsIn f ≡ 1 = rw append-nil at (words-past f b []) in
+    let one : wordCount f ≡ 1 = rw append-nil at (words-past f b []) in
     heard-at (logLine w f) w f time
     (words-past w a (32 ∷ (ascii "can0" ++ 32 ∷ f)) ∙ rw one)
     (ap (λ (l : List ℕ). length l) (word-later w a (ascii "can0" ++ 32 ∷ f) 0))

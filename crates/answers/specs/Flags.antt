@@ -24,8 +24,8 @@ flagsText bits names n = cond (eqb bits 0) (0x2D ∷ []) (cond (ltb 16 n) [] (fl
 abbrev pub bit : Bool → ℕ → ℕ
 bit set weight = cond set weight 0
 
-unfoldable pub stateFlags : MotorFeedbackState → List ℕ
-stateFlags s =
+unfoldable pub stateFlagsText : MotorFeedbackState → List ℕ
+stateFlagsText s =
     flagsText (bit (s .undervoltage) 1 + bit (s .overcurrent) 2 + bit (s .overtemperature) 4 + bit (s .«magnetic_encoder_fault») 8 + bit (s .stall) 16 + bit (s .uncalibrated) 32)
     (ascii "undervoltage overcurrent overtemperature magnetic_encoder_fault stall uncalibrated")
     6
@@ -36,11 +36,11 @@ lowFaults f = bit (f .overtemperature) 1 + bit (f .«driver_fault») 2 + bit (f 
 abbrev pub highFaults : FaultFlags → ℕ
 highFaults f = bit (f .«encoder_uncalibrated») 64 + bit (f .«hardware_id_fault») 128 + bit (f .«position_init_fault») 256 + bit (f .«stall_overload») 512 + bit (f .«phase_a_overcurrent») 1024
 
-unfoldable pub faultFlags : FaultFlags → List ℕ
-faultFlags f =
+unfoldable pub faultFlagsText : FaultFlags → List ℕ
+faultFlagsText f =
     flagsText (lowFaults f + highFaults f)
     (ascii "overtemperature driver_fault undervoltage overvoltage phase_b_overcurrent phase_c_overcurrent encoder_uncalibrated hardware_id_fault position_init_fault stall_overload phase_a_overcurrent")
     11
 
-unfoldable pub warningFlags : WarningFlags → List ℕ
-warningFlags w = flagsText (bit (w .«overtemperature_warning») 1) (ascii "overtemperature_warning") 1
+unfoldable pub warningFlagsText : WarningFlags → List ℕ
+warningFlagsText w = flagsText (bit (w .«overtemperature_warning») 1) (ascii "overtemperature_warning") 1

@@ -8,7 +8,7 @@ use Rattle.codec.specs.declared.error.Checked.{Checked}
 use Rattle.codec.specs.declared.error.Checked.the-variants as checked
 use Rattle.codec.specs.declared.faults.FaultReport.{FaultReport}
 use Rattle.codec.specs.declared.model.Model.{Model}
-use Rattle.codec.specs.Models.{nameOf}
+use Rattle.codec.specs.Models.{modelText}
 use Rattle.codec.specs.Words.{wordOf}
 use Rattle.motor.specs.declared.engine.command.Command.{Command}
 use Rattle.motor.specs.declared.engine.operation.Gains.{Gains}
@@ -30,17 +30,17 @@ use Rattle.station.specs.declared.station.Looked.{Looked}
 use Rattle.text.specs.Ascii.{ascii}
 use Rattle.text.specs.Fields.{fieldsText}
 use Rattle.answers.specs.Values.{numbersText, namedText, lineText, endOfLine, space, valueText}
-use Rattle.answers.specs.Names.{commandName}
-use Rattle.answers.specs.Flags.{stateFlags, faultFlags, warningFlags}
+use Rattle.answers.specs.Names.{commandText}
+use Rattle.answers.specs.Flags.{stateFlagsText, faultFlagsText, warningFlagsText}
 use Rattle.answers.specs.Said.{pingText, refusedText}
 
 -- motor ID HOST MODEL WAIT
 unfoldable pub motorText : ℕ → ℕ → Model → ℕ → List ℕ
-motorText id host model wait = ascii "motor" ++ numbersText id host (ascii "22") ++ space ++ nameOf model ++ lineText [] wait (ascii "D")
+motorText id host model wait = ascii "motor" ++ numbersText id host (ascii "22") ++ space ++ modelText model ++ lineText [] wait (ascii "D")
 
 -- feedback ID DEVICE MODE_STATE POS VEL TORQUE TEMP
-unfoldable pub stateText : MotorFeedbackState → List ℕ
-stateText s =
+unfoldable pub toldStateText : MotorFeedbackState → List ℕ
+toldStateText s =
     ascii "feedback"
     ++ fieldsText
     (s .«arbitration_id» ∷ s .«device_id» ∷ s .«mode_state» ∷ wordOf (s .position) .bits ∷ wordOf (s .velocity) .bits ∷ wordOf (s .torque) .bits ∷ wordOf (s .«temperature_c») .bits ∷ 0 ∷ [])
@@ -49,12 +49,12 @@ stateText s =
 -- and FLAGS
 unfoldable pub feedbackText : Latest → List ℕ
 feedbackText latest.Nothing = ascii "feedback none\n"
-feedbackText (latest.State s) = stateText s ++ space ++ stateFlags s ++ endOfLine
+feedbackText (latest.State s) = toldStateText s ++ space ++ stateFlagsText s ++ endOfLine
 
 -- fault FAULT_RAW WARNING_RAW FAULTS WARNINGS
 unfoldable pub reportText : FaultReport → List ℕ
 reportText r =
-    ascii "fault" ++ numbersText (r .«fault_raw») (r .«warning_raw») (ascii "88") ++ space ++ faultFlags (r .faults) ++ space ++ warningFlags (r .warnings) ++ endOfLine
+    ascii "fault" ++ numbersText (r .«fault_raw») (r .«warning_raw») (ascii "88") ++ space ++ faultFlagsText (r .faults) ++ space ++ warningFlagsText (r .warnings) ++ endOfLine
 
 unfoldable pub faultText : HeldFault → List ℕ
 faultText fault.Nothing = ascii "fault none\n"
@@ -70,10 +70,10 @@ gainsText g = ascii "gains" ++ numbersText (g .kp .bits) (g .kd .bits) (ascii "8
 
 -- running COMMAND due TIME
 unfoldable pub runningText : Operation → Command → List ℕ
-runningText op c = cond (isIdle (op .phase)) (ascii "running none\n") (ascii "running " ++ commandName c ++ lineText (ascii " due") (op .due) (ascii "D"))
+runningText op c = cond (isIdle (op .phase)) (ascii "running none\n") (ascii "running " ++ commandText c ++ lineText (ascii " due") (op .due) (ascii "D"))
 
-unfoldable pub heldText : State → List ℕ
-heldText s =
+unfoldable pub stateText : State → List ℕ
+stateText s =
     motorText (s .«motor_id») (s .«feedback_id») (s .model) (s .«write_wait»)
     ++ lineText (ascii "clock") (s .clock) (ascii "D")
     ++ lineText (ascii "responses") (s .responses) (ascii "D")
@@ -100,7 +100,7 @@ unfoldable pub readingsText : Listing → List ℕ
 readingsText l = readingsUpto (l .entries) (least (l .count) mostReadings)
 
 unfoldable pub seenText : Seen → List ℕ
-seenText s = heldText (s .state) ++ readingsText (s .readings) ++ ascii "end\n"
+seenText s = stateText (s .state) ++ readingsText (s .readings) ++ ascii "end\n"
 
 unfoldable pub lookedBy : Checked → Seen → List ℕ
 lookedBy checked.Passed s = seenText s

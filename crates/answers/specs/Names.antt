@@ -54,9 +54,9 @@ commandPlace (command.GetParameterWithHostId id h t) = 22
 commandPlace (command.GetParameterF32 id t) = 23
 commandPlace (command.GetParameterI8 id t) = 24
 
-abbrev pub modeName : ControlMode → List ℕ
-modeName m = wordAt modes (modePlace m)
+abbrev pub modeText : ControlMode → List ℕ
+modeText m = wordAt modes (modePlace m)
 
 -- the Rust method's name
-abbrev pub commandName : Command → List ℕ
-commandName c = wordAt commands (2 * commandPlace c)
+abbrev pub commandText : Command → List ℕ
+commandText c = wordAt commands (2 * commandPlace c)

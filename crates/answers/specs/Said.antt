@@ -14,9 +14,9 @@ use Rattle.motor.specs.declared.engine.command.Said.{Said}
 use Rattle.motor.specs.declared.engine.command.Said.the-variants as said
 use Rattle.text.specs.Ascii.{ascii}
 use Rattle.text.specs.Fields.{fieldsText}
-use Rattle.text.specs.Put.{digitsOf, decimalOf}
+use Rattle.text.specs.Put.{digitsText, decimalText}
 use Rattle.answers.specs.Values.{namedText, lineText, endOfLine, space, valueText, signedText, payloadNumber}
-use Rattle.answers.specs.Names.{modeName}
+use Rattle.answers.specs.Names.{modeText}
 
 abbrev pub okText : List ℕ
 okText = ascii "ok\n"
@@ -26,21 +26,21 @@ unfoldable pub lastText : LastMode → List ℕ
 lastText last.Unread = ascii " none"
 lastText (last.Read v) = space ++ signedText v
 
-abbrev pub readFailed : ℕ → ℕ → List ℕ
-readFailed id status = fieldsText (id ∷ status ∷ 0 ∷ 0 ∷ 0 ∷ 0 ∷ 0 ∷ 0 ∷ []) (ascii "42")
+abbrev pub readFailedText : ℕ → ℕ → List ℕ
+readFailedText id status = fieldsText (id ∷ status ∷ 0 ∷ 0 ∷ 0 ∷ 0 ∷ 0 ∷ 0 ∷ []) (ascii "42")
 
 -- what 14 and 18 carry
-unfoldable pub carriedText : Carried → List ℕ
-carriedText nothing = []
-carriedText (statusOf id status) = readFailed id status
-carriedText (lastRead last) = lastText last
+unfoldable pub valuesText : Carried → List ℕ
+valuesText nothing = []
+valuesText (statusOf id status) = readFailedText id status
+valuesText (lastRead last) = lastText last
 
-abbrev pub carried : Refusal → List ℕ
-carried r = carriedText (rowOf r .1)
+abbrev pub carriedText : Refusal → List ℕ
+carriedText r = valuesText (rowOf r .1)
 
 -- refused N
 unfoldable pub refusedText : Refusal → List ℕ
-refusedText r = namedText (ascii "refused") (numberOf r) (ascii "D") ++ carried r ++ endOfLine
+refusedText r = namedText (ascii "refused") (numberOf r) (ascii "D") ++ carriedText r ++ endOfLine
 
 -- of a registration, a frame or a removal
 unfoldable pub toldText : Checked → List ℕ
@@ -49,11 +49,11 @@ toldText (checked.Refused r) = refusedText r
 
 -- (SECONDS.MICROS) can0, and a space
 unfoldable pub stampText : ℕ → List ℕ
-stampText time = ascii "(" ++ decimalOf (time / 1000) ++ ascii "." ++ digitsOf 10 3 (time % 1000) ++ ascii "000) can0 "
+stampText time = ascii "(" ++ decimalText (time / 1000) ++ ascii "." ++ digitsText 10 3 (time % 1000) ++ ascii "000) can0 "
 
 -- (SECONDS.MICROS) can0 ID#DATA
 abbrev pub frameLine : CanFrame → ℕ → List ℕ
-frameLine f time = stampText time ++ digitsOf 16 8 (f .«arbitration_id») ++ ascii "#" ++ digitsOf 16 16 (payloadNumber (f .data))
+frameLine f time = stampText time ++ digitsText 16 8 (f .«arbitration_id») ++ ascii "#" ++ digitsText 16 16 (payloadNumber (f .data))
 
 unfoldable pub frameText : CanFrame → ℕ → List ℕ
 frameText f time = frameLine f time ++ endOfLine
@@ -65,7 +65,7 @@ pingText device responder payload = ascii "ping" ++ fieldsText (device ∷ respo
 unfoldable pub outcomeText : Outcome → List ℕ → List ℕ
 outcomeText outcome.Done result = ascii "none"
 outcomeText (outcome.Ping device responder) result = pingText device responder result
-outcomeText (outcome.Mode m) result = ascii "mode " ++ modeName m
+outcomeText (outcome.Mode m) result = ascii "mode " ++ modeText m
 outcomeText (outcome.Value v) result = ascii "value " ++ valueText v
 outcomeText (outcome.Flag flag) result = namedText (ascii "flag") flag (ascii "2")
 outcomeText (outcome.F32 w) result = namedText (ascii "f32") (w .bits) (ascii "8")

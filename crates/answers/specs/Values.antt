@@ -11,7 +11,7 @@ use Rattle.codec.specs.declared.protocol.ParameterValue.{ParameterValue}
 use Rattle.codec.specs.declared.protocol.ParameterValue.the-variants as value
 use Rattle.text.specs.Ascii.{ascii}
 use Rattle.text.specs.Fields.{fieldsText}
-use Rattle.text.specs.Put.{decimalOf}
+use Rattle.text.specs.Put.{decimalText}
 
 -- up to two numbers, each after a space, as the shape says
 abbrev pub numbersText : ℕ → ℕ → List ℕ → List ℕ
@@ -40,7 +40,7 @@ valueText (value.F32 w) = namedText (ascii "F32") (w .bits) (ascii "8")
 
 -- a signed number in decimal, by its byte
 abbrev pub signedByte : ℕ → List ℕ
-signedByte b = cond (ltb b 128) (decimalOf b) ((0x2D ∷ []) ++ decimalOf (256 - b))
+signedByte b = cond (ltb b 128) (decimalText b) ((0x2D ∷ []) ++ decimalText (256 - b))
 
 unfoldable pub signedText : ℤ → List ℕ
 signedText v = signedByte (ofZ w8 v)

@@ -52,7 +52,7 @@ fn bit(set: bool, weight: u64) -> u64
 
 // FLAGS
 pub(crate) fn put_state_flags(s: MotorFeedbackState, out: &mut [u8], at: usize) -> usize
-    ensures { λ r. ⌜ Put (now (out .entry)) at (spec.stateFlags s) (now (out .exit)) r ⌝ }
+    ensures { λ r. ⌜ Put (now (out .entry)) at (spec.stateFlagsText s) (now (out .exit)) r ⌝ }
 {
     let bits = bit(s.undervoltage, 1)
         + bit(s.overcurrent, 2)
@@ -71,7 +71,7 @@ pub(crate) fn put_state_flags(s: MotorFeedbackState, out: &mut [u8], at: usize) 
 
 // FAULTS
 pub(crate) fn put_fault_flags(f: FaultFlags, out: &mut [u8], at: usize) -> usize
-    ensures { λ r. ⌜ Put (now (out .entry)) at (spec.faultFlags f) (now (out .exit)) r ⌝ }
+    ensures { λ r. ⌜ Put (now (out .entry)) at (spec.faultFlagsText f) (now (out .exit)) r ⌝ }
 {
     let low = bit(f.overtemperature, 1)
         + bit(f.driver_fault, 2)
@@ -95,7 +95,7 @@ pub(crate) fn put_fault_flags(f: FaultFlags, out: &mut [u8], at: usize) -> usize
 
 // WARNINGS
 pub(crate) fn put_warning_flags(w: WarningFlags, out: &mut [u8], at: usize) -> usize
-    ensures { λ r. ⌜ Put (now (out .entry)) at (spec.warningFlags w) (now (out .exit)) r ⌝ }
+    ensures { λ r. ⌜ Put (now (out .entry)) at (spec.warningFlagsText w) (now (out .exit)) r ⌝ }
 {
     put_flags(
         bit(w.overtemperature_warning, 1),

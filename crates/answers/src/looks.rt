@@ -57,7 +57,7 @@ fn put_seen(seen: Seen, out: &mut [u8], at: usize) -> usize
 
 // The lines above the readings.
 fn put_state(s: State, out: &mut [u8], at: usize) -> usize
-    ensures { λ r. ⌜ Put (now (out .entry)) at (spec.heldText s) (now (out .exit)) r ⌝ }
+    ensures { λ r. ⌜ Put (now (out .entry)) at (spec.stateText s) (now (out .exit)) r ⌝ }
 {
     let model = s.model;
     let p = put_motor(s.motor_id, s.feedback_id, model, s.write_wait, out, at);
@@ -105,7 +105,7 @@ fn put_feedback(latest: Latest, out: &mut [u8], at: usize) -> usize
 }
 
 fn put_told_state(s: MotorFeedbackState, out: &mut [u8], at: usize) -> usize
-    ensures { λ r. ⌜ Put (now (out .entry)) at (spec.stateText s) (now (out .exit)) r ⌝ }
+    ensures { λ r. ⌜ Put (now (out .entry)) at (spec.toldStateText s) (now (out .exit)) r ⌝ }
 {
     let position = word_of(s.position);
     let velocity = word_of(s.velocity);
@@ -184,7 +184,7 @@ fn put_running(operation: Operation, command: Command, out: &mut [u8], at: usize
     ensures { λ r. ⌜ Put (now (out .entry)) at (spec.runningText operation command) (now (out .exit)) r ⌝ }
 {
     let phase = operation.phase;
-    if is_none(phase) {
+    if is_idle(phase) {
         return text::put_bytes(out, at, b"running none\n");
     }
     let p = text::put_bytes(out, at, b"running ");
@@ -192,7 +192,7 @@ fn put_running(operation: Operation, command: Command, out: &mut [u8], at: usize
     put_line(b" due", operation.due, b"D", out, p)
 }
 
-fn is_none(phase: Phase) -> bool
+fn is_idle(phase: Phase) -> bool
     ensures { λ r. ⌜ r ≡ isIdle phase ⌝ }
 {
     match phase {

@@ -6,12 +6,12 @@ use session::table::COMMANDS;
 use session::table::MODES;
 ghost use mathlib.Core.Path.{_≡_};
 ghost use Rattle.text.specs.Put.{Put};
-ghost use Rattle.codec.specs.Models.{nameOf};
-ghost use Rattle.answers.specs.Names.{modePlace, modelPlace, commandPlace, modeName, commandName};
+ghost use Rattle.codec.specs.Models.{modelText};
+ghost use Rattle.answers.specs.Names.{modePlace, modelPlace, commandPlace, modeText, commandText};
 
 // A mode's name.
 pub(crate) fn put_mode(mode: ControlMode, out: &mut [u8], at: usize) -> usize
-    ensures { λ r. ⌜ Put (now (out .entry)) at (modeName mode) (now (out .exit)) r ⌝ }
+    ensures { λ r. ⌜ Put (now (out .entry)) at (modeText mode) (now (out .exit)) r ⌝ }
 {
     let k = mode_place(mode);
     let name = text::word(&MODES, k);
@@ -31,7 +31,7 @@ fn mode_place(mode: ControlMode) -> usize
 
 // A model's name.
 pub(crate) fn put_model(model: Model, out: &mut [u8], at: usize) -> usize
-    ensures { λ r. ⌜ Put (now (out .entry)) at (nameOf model) (now (out .exit)) r ⌝ }
+    ensures { λ r. ⌜ Put (now (out .entry)) at (modelText model) (now (out .exit)) r ⌝ }
 {
     let k = model_place(model);
     let name = text::word(b"rs-00 rs-01 rs-02 rs-03 rs-04 rs-05 rs-05el rs-06", k);
@@ -55,7 +55,7 @@ fn model_place(model: Model) -> usize
 
 // A command's name, the Rust method's.
 pub(crate) fn put_command(command: Command, out: &mut [u8], at: usize) -> usize
-    ensures { λ r. ⌜ Put (now (out .entry)) at (commandName command) (now (out .exit)) r ⌝ }
+    ensures { λ r. ⌜ Put (now (out .entry)) at (commandText command) (now (out .exit)) r ⌝ }
 {
     let k = command_place(command) as usize;
     let name = text::word(&COMMANDS, 2 * k);

@@ -1,6 +1,6 @@
 // What is said to an event other than a look, with the frame sent on the line before it.
 use crate::names::put_mode;
-use crate::values::number_of;
+use crate::values::payload_number;
 use crate::values::put_line;
 use crate::values::put_named;
 use crate::values::put_signed;
@@ -43,7 +43,7 @@ pub fn put_refused(refusal: Refusal, out: &mut [u8], at: usize) -> usize
 }
 
 fn put_carried(refusal: Refusal, out: &mut [u8], at: usize) -> usize
-    ensures { λ r. ⌜ Put (now (out .entry)) at (spec.carried refusal) (now (out .exit)) r ⌝ }
+    ensures { λ r. ⌜ Put (now (out .entry)) at (spec.carriedText refusal) (now (out .exit)) r ⌝ }
 {
     match refusal {
         Refusal::ReadFailed { id, status } => put_read_failed(id, status, out, at),
@@ -53,7 +53,7 @@ fn put_carried(refusal: Refusal, out: &mut [u8], at: usize) -> usize
 }
 
 fn put_read_failed(id: u16, status: u8, out: &mut [u8], at: usize) -> usize
-    ensures { λ r. ⌜ Put (now (out .entry)) at (spec.readFailed id status) (now (out .exit)) r ⌝ }
+    ensures { λ r. ⌜ Put (now (out .entry)) at (spec.readFailedText id status) (now (out .exit)) r ⌝ }
 {
     let v = [id as u64, status as u64, 0, 0, 0, 0, 0, 0];
     text::put_fields(v, b"42", out, at)
@@ -114,7 +114,7 @@ fn put_frame(frame: CanFrame, time: u64, out: &mut [u8], at: usize) -> usize
     let p = text::put_hex(out, p, frame.arbitration_id as u64, 8);
     let p = text::put_byte(out, p, b'#');
     let data = frame.data;
-    let p = text::put_hex(out, p, number_of(data), 16);
+    let p = text::put_hex(out, p, payload_number(data), 16);
     text::put_byte(out, p, b'\n')
 }
 
@@ -171,7 +171,7 @@ pub(crate) fn put_ping(
 ) -> usize
     ensures { λ r. ⌜ Put (now (out .entry)) at (spec.pingText device responder payload) (now (out .exit)) r ⌝ }
 {
-    let n = number_of(payload);
+    let n = payload_number(payload);
     let p = text::put_bytes(out, at, b"ping");
     let v = [device as u64, responder as u64, n, 0, 0, 0, 0, 0];
     text::put_fields(v, b"22P", out, p)

@@ -56,7 +56,7 @@ pub(crate) fn put_signed(v: i8, out: &mut [u8], at: usize) -> usize
 }
 
 // A payload as one number, its first byte highest.
-pub(crate) fn number_of(d: [u8; 8]) -> u64
+pub(crate) fn payload_number(d: [u8; 8]) -> u64
     ensures { λ r. ⌜ r ≡ spec.payloadNumber d ⌝ }
 {
     four_of(d[0], d[1], d[2], d[3]) * 0x1_0000_0000 + four_of(d[4], d[5], d[6], d[7])

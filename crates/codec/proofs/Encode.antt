@@ -12,7 +12,7 @@ use lib.Ieee.{Float, nan, inf, fin, binary32, up, down, round, add, mul, div, ne
 use lib.Ieee.Fits.{up-pos, down-pos}
 use lib.Ieee.Exact.{HasValue}
 use lib.Ieee.Nearest.{div-mono}
-use Rattle.codec.specs.Motion.{clamped, motionRaw}
+use Rattle.codec.specs.Motion.{clamp, motionRaw}
 use Rattle.codec.proofs.Rounded.{U, rounded, rounded-value, rounded-mono, rounded-same}
 use Rattle.codec.proofs.Steps.{one, plus-one, times, quotient, cut-value, rounded-1, rounded-2, rounded-65534}
 
@@ -107,8 +107,8 @@ module _ (n : ℕ) (d : ℤ) (N : 0 < n) where
       ap (λ (y : Float). toUnsigned 16 (mul binary32 (add binary32 y one) (fin false 32767 (pos 0)))) (quotient s k e n d N)
       ∙ from-quotient (round binary32 s (A k e) (B e)) s (rounded (A k e) (B e)) (rounded-value s (A k e) (B e) (lt-of-le-of-lt l (lit< tt))) l
 
-  clamped-is : (s : Bool) (k : ℕ) (e : ℤ) → clamped (fin s k e) (neg (fin false n d)) (fin false n d) ≡ cond (ltb (B e) (A k e)) (fin s n d) (fin s k e)
-  unfolding clamped lt neg
+  clamped-is : (s : Bool) (k : ℕ) (e : ℤ) → clamp (fin s k e) (neg (fin false n d)) (fin false n d) ≡ cond (ltb (B e) (A k e)) (fin s n d) (fin s k e)
+  unfolding clamp lt neg
   clamped-is true k e = refl
   clamped-is false k e = refl
 
@@ -143,10 +143,10 @@ module _ (n : ℕ) (d : ℤ) (N : 0 < n) where
   motion-fin s k e = ap (λ (x : Float). formula x (fin false n d)) (clamped-is s k e) ∙ formula-clamped s k e
 
   pub motion-inf : (s : Bool) → motionRaw (inf s) (fin false n d) ≡ rawAt (place s U)
-  unfolding motionRaw ofInt clamped lt neg
+  unfolding motionRaw ofInt clamp lt neg
   motion-inf true = inside true n d (le-refl (A n d)) ∙ ap (λ (z : ℕ). rawAt (place true z)) (whole-one (B d) (B-pos d))
   motion-inf false = inside false n d (le-refl (A n d)) ∙ ap (λ (z : ℕ). rawAt (place false z)) (whole-one (B d) (B-pos d))
 
   pub motion-nan : motionRaw nan (fin false n d) ≡ 0
-  unfolding motionRaw clamped lt div add mul toUnsigned
+  unfolding motionRaw clamp lt div add mul toUnsigned
   motion-nan = refl

@@ -11,7 +11,7 @@ use lib.ListN.{length, getD}
 use Rattle.codec.specs.declared.registers.ParameterDataType.the-variants.{Int8, UInt8, UInt16, UInt32, Float32}
 use Rattle.codec.specs.declared.registers.ParameterInfo.{ParameterInfo}
 use Rattle.codec.specs.declared.registers.ParameterInfo.the-variants.{Listed, Unlisted}
-use Rattle.codec.specs.Kinds.{among, listedIds, int8Ids, uint8Ids, uint16Ids, uint32Ids, kindOf, infoOf, kindNumber, codedAs}
+use Rattle.codec.specs.Kinds.{among, listedIds, int8Ids, uint8Ids, uint16Ids, uint32Ids, kindOf, parameterInfo, kindNumber, codedAs}
 
 abbrev pub rows : List ℕ
 rows =
@@ -53,18 +53,18 @@ named (Listed Float32) = refl
 named Unlisted = refl
 
 right : ℕ → Bool
-right row = eqb (infoNumber (infoOf (row / 256))) (row % 256)
+right row = eqb (infoNumber (parameterInfo (row / 256))) (row % 256)
 
 all-right : T (every right rows)
-unfolding every right infoNumber infoOf kindOf among listedIds int8Ids uint8Ids uint16Ids uint32Ids
+unfolding every right infoNumber parameterInfo kindOf among listedIds int8Ids uint8Ids uint16Ids uint32Ids
 all-right = tt
 
-pub found : (k id : ℕ) → k < 62 → getD rows k 0 / 256 ≡ id → codedAs (getD rows k 0 % 256) ≡ infoOf id
+pub found : (k id : ℕ) → k < 62 → getD rows k 0 / 256 ≡ id → codedAs (getD rows k 0 % 256) ≡ parameterInfo id
 unfolding right
 found k id h e =
     let row = getD rows k 0 in
-    let n : infoNumber (infoOf (row / 256)) ≡ row % 256 = eqb→eq (infoNumber (infoOf (row / 256))) (row % 256) (at right rows all-right k h) in
-    ap codedAs (sym n) ∙ named (infoOf (row / 256)) ∙ ap infoOf e
+    let n : infoNumber (parameterInfo (row / 256)) ≡ row % 256 = eqb→eq (infoNumber (parameterInfo (row / 256))) (row % 256) (at right rows all-right k h) in
+    ap codedAs (sym n) ∙ named (parameterInfo (row / 256)) ∙ ap parameterInfo e
 
 -- ---- no other id is listed
 
@@ -81,6 +81,6 @@ ids-are : idsOf rows ≡ listedIds
 unfolding idsOf listedIds
 ids-are = refl
 
-pub missing : (id : ℕ) → ((k : ℕ) → k < 62 → getD rows k 0 / 256 ≡ id → ⊥) → Unlisted ≡ infoOf id
-unfolding infoOf
+pub missing : (id : ℕ) → ((k : ℕ) → k < 62 → getD rows k 0 / 256 ≡ id → ⊥) → Unlisted ≡ parameterInfo id
+unfolding parameterInfo
 missing id h = rw (← ids-are, not-among rows id h)

@@ -16,7 +16,7 @@ use lib.Ieee.Scale.{round-same}
 use Rattle.codec.specs.declared.model.Model.{Model}
 use Rattle.codec.specs.declared.model.Model.the-variants.{Rs00, Rs01, Rs02, Rs03, Rs04, Rs05, Rs05el, Rs06}
 use Rattle.codec.specs.Models.{limitsOf}
-use Rattle.codec.specs.Motion.{motionRaw, gainRaw, clamped, whole}
+use Rattle.codec.specs.Motion.{motionRaw, gainRaw, clamp, whole}
 use Rattle.codec.specs.Status.{statusValue}
 use Rattle.codec.proofs.Rounded.{U, rounded, rounded-same, rounded-value}
 use Rattle.codec.proofs.Steps.{one, quotient, times, cut-value}
@@ -111,12 +111,12 @@ module _ (n : ℕ) (d : ℤ) where
   unfolding lt
   not-below = le-ltb (suc n * up d * 1) (0 * 1 * down d) (omega arith)
 
-  kept-zero : clamped none (whole 0) (fin false (suc n) d) ≡ none
-  unfolding clamped ofInt
+  kept-zero : clamp none (whole 0) (fin false (suc n) d) ≡ none
+  unfolding clamp ofInt
   kept-zero = rw not-below zero-or-zero
 
-  kept-limit : clamped (fin false (suc n) d) (whole 0) (fin false (suc n) d) ≡ fin false (suc n) d
-  unfolding clamped ofInt
+  kept-limit : clamp (fin false (suc n) d) (whole 0) (fin false (suc n) d) ≡ fin false (suc n) d
+  unfolding clamp ofInt
   kept-limit = rw not-below (either (lt (fin false (suc n) d) (fin false (suc n) d)))
     where
       either : (b : Bool) → cond b (fin false (suc n) d) (fin false (suc n) d) ≡ fin false (suc n) d

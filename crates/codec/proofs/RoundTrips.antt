@@ -19,23 +19,23 @@ use Rattle.codec.specs.declared.registers.ParameterDataType.{ParameterDa
 use Rattle.codec.specs.declared.registers.ParameterDataType.the-variants.{Int8, UInt8, UInt16, UInt32, Float32}
 use Rattle.codec.specs.declared.registers.ParameterInfo.{ParameterInfo}
 use Rattle.codec.specs.declared.registers.ParameterInfo.the-variants.{Listed, Unlisted}
-use Rattle.codec.specs.Ids.{joined, split, typeOf, extraOf, nodeOf}
-use Rattle.codec.specs.Kinds.{kindNumber, codedAs, infoOf}
-use Rattle.codec.specs.Values.{le32, widthOf, valueAs, kindIn, rawOf, encodedBy, encodedValue, writePayload, readValue}
+use Rattle.codec.specs.Ids.{buildExtId, extIdParts, typeOf, extraOf, nodeOf}
+use Rattle.codec.specs.Kinds.{kindNumber, codedAs, parameterInfo}
+use Rattle.codec.specs.Values.{le32, widthOf, valueAs, kindIn, rawOf, encodedBy, encodeParameterValue, encodeParameterWrite, decodeReadParameterValue}
 
 -- ---- ids
 
 -- split after join: the type comes back reduced to its 5 bits, the extra field and the node as they were
 pub split-join : (type extra node : ℕ) → extra < 65536 → node < 256
-    → split (joined type extra node) ≡ record { «comm_type» = type % 32; «extra_data» = extra; «node_id» = node }
+    → extIdParts (buildExtId type extra node) ≡ record { «comm_type» = type % 32; «extra_data» = extra; «node_id» = node }
 split-join type extra node e n =
-    let t : typeOf (joined type extra node) ≡ type % 32 = omega arith in
-    let x : extraOf (joined type extra node) ≡ extra = omega arith in
-    let o : nodeOf (joined type extra node) ≡ node = omega arith in
+    let t : typeOf (buildExtId type extra node) ≡ type % 32 = omega arith in
+    let x : extraOf (buildExtId type extra node) ≡ extra = omega arith in
+    let o : nodeOf (buildExtId type extra node) ≡ node = omega arith in
     rw (t, x, o)
 
 -- join after split: the top three bits are gone
-pub join-split : (id : ℕ) → joined (typeOf id) (extraOf id) (nodeOf id) ≡ id % 2 ^ 29
+pub join-split : (id : ℕ) → buildExtId (typeOf id) (extraOf id) (nodeOf id) ≡ id % 2 ^ 29
 join-split id = omega arith
 
 -- ---- values: one fact over kinds and widths for each direction
@@ -79,7 +79,7 @@ kind-by-number a b e = sym (named (Listed a)) ∙ ap codedAs e ∙ named (Listed
 -- ---- payloads
 
 -- the four bytes of a write's payload are its raw number
-pub write-raw : (id raw : ℕ) → raw < 2 ^ 32 → le32 (writePayload id raw) 4 ≡ raw
+pub write-raw : (id raw : ℕ) → raw < 2 ^ 32 → le32 (encodeParameterWrite id raw) 4 ≡ raw
 write-raw id raw h = omega arith
 
 -- a value is accepted for writing only where the parameter is of its kind
@@ -96,14 +96,14 @@ accepted (Listed kind) v raw h = go (eqb (kindNumber kind) (kindNumber (kindIn v
         absurd (omega arith)
 
 -- echo: a value accepted for writing, whose four bytes come back in bytes 4 to 7, is decoded with its kind and bits
-pub echoed : (id raw : ℕ) (v : ParameterValue) (payload : List ℕ) → InRange v → encodedValue id v ≡ Raw raw → le32 payload 4 ≡ raw → readValue id payload ≡ v
+pub echoed : (id raw : ℕ) (v : ParameterValue) (payload : List ℕ) → InRange v → encodeParameterValue id v ≡ Raw raw → le32 payload 4 ≡ raw → decodeReadParameterValue id payload ≡ v
 echoed id raw v payload h a e =
-    let k = accepted (infoOf id) v raw a in
+    let k = accepted (parameterInfo id) v raw a in
     rw (k .0, e, ← k .1) (value-raw v h)
 
 -- what is decoded for a listed parameter is of its kind, and is encoded as the bytes that the kind uses, the rest zero
-pub written-out : (id : ℕ) (kind : ParameterDataType) (payload : List ℕ) → le32 payload 4 < 2 ^ 32 → infoOf id ≡ Listed kind
-    → encodedValue id (readValue id payload) ≡ Raw (le32 payload 4 % 2 ^ (8 * widthOf kind))
+pub written-out : (id : ℕ) (kind : ParameterDataType) (payload : List ℕ) → le32 payload 4 < 2 ^ 32 → parameterInfo id ≡ Listed kind
+    → encodeParameterValue id (decodeReadParameterValue id payload) ≡ Raw (le32 payload 4 % 2 ^ (8 * widthOf kind))
 written-out id kind payload h i =
     rw (i, kind-kept kind (le32 payload 4), raw-value kind (le32 payload 4) h, own kind)
   where

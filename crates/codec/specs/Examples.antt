@@ -10,12 +10,12 @@ use Rattle.codec.specs.declared.model.Model.the-variants.{Rs00}
 use Rattle.codec.specs.declared.motion.MitCommand.{MitCommand}
 use Rattle.codec.specs.declared.protocol.ParameterValue.{ParameterValue}
 use Rattle.codec.specs.declared.protocol.ParameterValue.the-variants.{I8}
-use Rattle.codec.specs.Ids.{joined, extraOf}
-use Rattle.codec.specs.Kinds.{among, listedIds, int8Ids, kindOf, infoOf}
+use Rattle.codec.specs.Ids.{buildExtId, extraOf}
+use Rattle.codec.specs.Kinds.{among, listedIds, int8Ids, kindOf, parameterInfo}
 use Rattle.codec.specs.Models.{limitsOf}
-use Rattle.codec.specs.Motion.{whole, clamped, motionRaw, gainRaw, mitCommand}
+use Rattle.codec.specs.Motion.{whole, clamp, motionRaw, gainRaw, encodeMitCommand}
 use Rattle.codec.specs.Status.{statusValue, temperatureOf, statusFlags}
-use Rattle.codec.specs.Values.{readPayload, readValue}
+use Rattle.codec.specs.Values.{encodeParameterRead, decodeReadParameterValue}
 
 -- 4π and 16.5 as floats
 abbrev pub fourPi : Float
@@ -42,8 +42,8 @@ Holds (value a b ∷ rows) = (a ≡ b) × Holds rows
 
 abbrev pub examples : List Row
 examples =
-    number (joined 1 0x7FFF 1) 0x017FFF01
-    ∷ command (mitCommand (whole 0) (whole 0) (whole 0) (whole 0) (whole 0) (limitsOf Rs00)) (record { «extra_data» = 0x7FFF; payload = 0x7F ∷ 0xFF ∷ 0x7F ∷ 0xFF ∷ 0 ∷ 0 ∷ 0 ∷ 0 ∷ [] })
+    number (buildExtId 1 0x7FFF 1) 0x017FFF01
+    ∷ command (encodeMitCommand (whole 0) (whole 0) (whole 0) (whole 0) (whole 0) (limitsOf Rs00)) (record { «extra_data» = 0x7FFF; payload = 0x7F ∷ 0xFF ∷ 0x7F ∷ 0xFF ∷ 0 ∷ 0 ∷ 0 ∷ 0 ∷ [] })
     ∷ number (motionRaw fourPi (limitsOf Rs00 .position)) 0xFFFE
     ∷ number (motionRaw nan (limitsOf Rs00 .position)) 0
     ∷ number (motionRaw sixteenAndHalf (limitsOf Rs00 .velocity)) 0xBFFE
@@ -54,11 +54,11 @@ examples =
     ∷ number (statusFlags (extraOf 0x028001FD) .«mode_state») 2
     ∷ number (statusFlags (extraOf 0x028001FD) .«device_id») 1
     ∷ float (temperatureOf 250) (fin false 25 (pos 0))
-    ∷ number (joined 17 0x00FD 1) 0x1100FD01
-    ∷ bytes (readPayload 0x7005) (0x05 ∷ 0x70 ∷ 0 ∷ 0 ∷ 0 ∷ 0 ∷ 0 ∷ 0 ∷ [])
-    ∷ value (readValue 0x7005 (0x05 ∷ 0x70 ∷ 0 ∷ 0 ∷ 2 ∷ 0 ∷ 0 ∷ 0 ∷ [])) (I8 (pos 2))
+    ∷ number (buildExtId 17 0x00FD 1) 0x1100FD01
+    ∷ bytes (encodeParameterRead 0x7005) (0x05 ∷ 0x70 ∷ 0 ∷ 0 ∷ 0 ∷ 0 ∷ 0 ∷ 0 ∷ [])
+    ∷ value (decodeReadParameterValue 0x7005 (0x05 ∷ 0x70 ∷ 0 ∷ 0 ∷ 2 ∷ 0 ∷ 0 ∷ 0 ∷ [])) (I8 (pos 2))
     ∷ []
 
 pub examples-hold : Holds examples
-unfolding motionRaw gainRaw statusValue temperatureOf clamped toUnsigned mul add sub div neg lt ofInt ofBits infoOf kindOf among listedIds int8Ids
+unfolding motionRaw gainRaw statusValue temperatureOf clamp toUnsigned mul add sub div neg lt ofInt ofBits parameterInfo kindOf among listedIds int8Ids
 examples-hold = (refl, (refl, (refl, (refl, (refl, (refl, (refl, (refl, (refl, (refl, (refl, (refl, (refl, (refl, (refl, tt)))))))))))))))

@@ -26,8 +26,8 @@ faultFlags n =
 abbrev pub warningFlags : ℕ → WarningFlags
 warningFlags n = record { «overtemperature_warning» = bit n 0 }
 
-abbrev pub faultReport : List ℕ → FaultReport
-faultReport payload =
+abbrev pub decodeFaultReport : List ℕ → FaultReport
+decodeFaultReport payload =
     record {
       «fault_raw» = le32 payload 0;
       «warning_raw» = le32 payload 4;

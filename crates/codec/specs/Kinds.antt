@@ -41,8 +41,8 @@ kindOf id =
     cond (among id int8Ids) Int8
     (cond (among id uint8Ids) UInt8 (cond (among id uint16Ids) UInt16 (cond (among id uint32Ids) UInt32 Float32)))
 
-unfoldable pub infoOf : ℕ → ParameterInfo
-infoOf id = cond (among id listedIds) (Listed (kindOf id)) Unlisted
+unfoldable pub parameterInfo : ℕ → ParameterInfo
+parameterInfo id = cond (among id listedIds) (Listed (kindOf id)) Unlisted
 
 -- a number for each kind, by which two kinds are compared
 abbrev pub kindNumber : ParameterDataType → ℕ

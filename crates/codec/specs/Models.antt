@@ -24,20 +24,20 @@ sameBytes (a ∷ s) (b ∷ t) = eqb a b && sameBytes s t
 abbrev pub rs : List ℕ → List ℕ
 rs rest = 0x72 ∷ 0x73 ∷ 0x2D ∷ rest
 
-abbrev pub nameOf : Model → List ℕ
-nameOf Rs00 = rs (0x30 ∷ 0x30 ∷ [])
-nameOf Rs01 = rs (0x30 ∷ 0x31 ∷ [])
-nameOf Rs02 = rs (0x30 ∷ 0x32 ∷ [])
-nameOf Rs03 = rs (0x30 ∷ 0x33 ∷ [])
-nameOf Rs04 = rs (0x30 ∷ 0x34 ∷ [])
-nameOf Rs05 = rs (0x30 ∷ 0x35 ∷ [])
-nameOf Rs05el = rs (0x30 ∷ 0x35 ∷ 0x65 ∷ 0x6C ∷ [])
-nameOf Rs06 = rs (0x30 ∷ 0x36 ∷ [])
+abbrev pub modelText : Model → List ℕ
+modelText Rs00 = rs (0x30 ∷ 0x30 ∷ [])
+modelText Rs01 = rs (0x30 ∷ 0x31 ∷ [])
+modelText Rs02 = rs (0x30 ∷ 0x32 ∷ [])
+modelText Rs03 = rs (0x30 ∷ 0x33 ∷ [])
+modelText Rs04 = rs (0x30 ∷ 0x34 ∷ [])
+modelText Rs05 = rs (0x30 ∷ 0x35 ∷ [])
+modelText Rs05el = rs (0x30 ∷ 0x35 ∷ 0x65 ∷ 0x6C ∷ [])
+modelText Rs06 = rs (0x30 ∷ 0x36 ∷ [])
 
 -- the first of the models that has exactly this name
 unfoldable pub namedAmong : List ℕ → List Model → ModelNamed
 namedAmong name [] = named.Unknown
-namedAmong name (m ∷ models) = cond (sameBytes name (nameOf m)) (named.Known m) (namedAmong name models)
+namedAmong name (m ∷ models) = cond (sameBytes name (modelText m)) (named.Known m) (namedAmong name models)
 
 abbrev pub allModels : List Model
 allModels = Rs00 ∷ Rs01 ∷ Rs02 ∷ Rs03 ∷ Rs04 ∷ Rs05 ∷ Rs05el ∷ Rs06 ∷ []

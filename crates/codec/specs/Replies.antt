@@ -18,38 +18,38 @@ abbrev pub zeros : List ℕ
 zeros = 0 ∷ 0 ∷ 0 ∷ 0 ∷ 0 ∷ 0 ∷ 0 ∷ 0 ∷ []
 
 -- 12: protocol not 0..2
-abbrev pub protocolChecked : ℕ → Checked
-protocolChecked p = cond (ltb 2 p) (Refused UnknownProtocol) Passed
+abbrev pub validateProtocolCmd : ℕ → Checked
+validateProtocolCmd p = cond (ltb 2 p) (Refused UnknownProtocol) Passed
 
 abbrev pub setProtocolBy : Checked → ℕ → SetProtocol
 setProtocolBy Passed p = record { said = Passed; payload = 1 ∷ 2 ∷ 3 ∷ 4 ∷ 5 ∷ 6 ∷ p ∷ 0 ∷ [] }
 setProtocolBy (Refused r) p = record { said = Refused r; payload = zeros }
 
-abbrev pub setProtocol : ℕ → SetProtocol
-setProtocol p = setProtocolBy (protocolChecked p) p
+abbrev pub encodeSetProtocol : ℕ → SetProtocol
+encodeSetProtocol p = setProtocolBy (validateProtocolCmd p) p
 
 -- ---- version
 
-abbrev pub versionRequest : List ℕ
-versionRequest = 0 ∷ 0xC4 ∷ 0 ∷ 0 ∷ 0 ∷ 0 ∷ 0 ∷ 0 ∷ []
+abbrev pub encodeVersionRequest : List ℕ
+encodeVersionRequest = 0 ∷ 0xC4 ∷ 0 ∷ 0 ∷ 0 ∷ 0 ∷ 0 ∷ 0 ∷ []
 
 -- type 2, and a payload that begins 00 C4 56
-abbrev pub isVersion : ℕ → List ℕ → Bool
-isVersion id payload = eqb (typeOf id) 2 && (eqb (getD payload 0 0) 0 && (eqb (getD payload 1 0) 0xC4 && eqb (getD payload 2 0) 0x56))
+abbrev pub isVersionReply : ℕ → List ℕ → Bool
+isVersionReply id payload = eqb (typeOf id) 2 && (eqb (getD payload 0 0) 0 && (eqb (getD payload 1 0) 0xC4 && eqb (getD payload 2 0) 0x56))
 
 abbrev pub versionReply : ℕ → List ℕ → VersionReply
 versionReply id payload =
     record { «device_id» = extraOf id % 256; version = getD payload 3 0 ∷ getD payload 4 0 ∷ getD payload 5 0 ∷ getD payload 6 0 ∷ [] }
 
 -- 23: not a version reply
-abbrev pub noVersion : VersionAnswer
-noVersion = record { said = Refused NotVersionReply; reply = record { «device_id» = 0; version = 0 ∷ 0 ∷ 0 ∷ 0 ∷ [] } }
+abbrev pub notVersionReply : VersionAnswer
+notVersionReply = record { said = Refused NotVersionReply; reply = record { «device_id» = 0; version = 0 ∷ 0 ∷ 0 ∷ 0 ∷ [] } }
 
-abbrev pub aVersion : VersionReply → VersionAnswer
-aVersion reply = record { said = Passed; reply = reply }
+abbrev pub passedVersion : VersionReply → VersionAnswer
+passedVersion reply = record { said = Passed; reply = reply }
 
-abbrev pub versionAnswer : ℕ → List ℕ → VersionAnswer
-versionAnswer id payload = cond (isVersion id payload) (aVersion (versionReply id payload)) noVersion
+abbrev pub decodeVersionReply : ℕ → List ℕ → VersionAnswer
+decodeVersionReply id payload = cond (isVersionReply id payload) (passedVersion (versionReply id payload)) notVersionReply
 
 -- ---- ping
 
@@ -57,11 +57,11 @@ abbrev pub pingReply : ℕ → List ℕ → PingReply
 pingReply id payload = record { «device_id» = extraOf id % 256; «responder_id» = nodeOf id; payload = payload }
 
 -- 22: not a ping reply
-abbrev pub noPing : PingAnswer
-noPing = record { said = Refused NotPingReply; reply = record { «device_id» = 0; «responder_id» = 0; payload = zeros } }
+abbrev pub notPingReply : PingAnswer
+notPingReply = record { said = Refused NotPingReply; reply = record { «device_id» = 0; «responder_id» = 0; payload = zeros } }
 
-abbrev pub aPing : PingReply → PingAnswer
-aPing reply = record { said = Passed; reply = reply }
+abbrev pub passedPing : PingReply → PingAnswer
+passedPing reply = record { said = Passed; reply = reply }
 
-abbrev pub pingAnswer : ℕ → List ℕ → PingAnswer
-pingAnswer id payload = cond (eqb (typeOf id) 0) (aPing (pingReply id payload)) noPing
+abbrev pub decodePingReply : ℕ → List ℕ → PingAnswer
+decodePingReply id payload = cond (eqb (typeOf id) 0) (passedPing (pingReply id payload)) notPingReply

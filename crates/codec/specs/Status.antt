@@ -44,8 +44,8 @@ statusFlags extra =
       «device_id» = extra % 256;
     }
 
-abbrev pub statusFrame : ℕ → List ℕ → Limits → StatusFrame
-statusFrame extra payload limits =
+abbrev pub decodeStatusFrame : ℕ → List ℕ → Limits → StatusFrame
+decodeStatusFrame extra payload limits =
     record {
       flags = statusFlags extra;
       position = statusValue (be16 payload 0) (limits .position);

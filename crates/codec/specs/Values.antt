@@ -15,7 +15,7 @@ use Rattle.codec.specs.declared.protocol.ParameterValue.{ParameterValue}
 use Rattle.codec.specs.declared.protocol.ParameterValue.the-variants.{I8, U8, U16, U32, F32}
 use Rattle.codec.specs.declared.protocol.EncodedValue.{EncodedValue}
 use Rattle.codec.specs.declared.protocol.EncodedValue.the-variants.{Raw, Refused}
-use Rattle.codec.specs.Kinds.{kindNumber, infoOf}
+use Rattle.codec.specs.Kinds.{kindNumber, parameterInfo}
 
 -- the number that four bytes stand for, the lowest at i
 abbrev pub le32 : List ℕ → ℕ → ℕ
@@ -59,21 +59,21 @@ abbrev pub encodedBy : ParameterInfo → ParameterValue → EncodedValue
 encodedBy (Listed kind) value = cond (eqb (kindNumber kind) (kindNumber (kindIn value))) (Raw (rawOf value)) (Refused KindDiffers)
 encodedBy Unlisted value = Refused UnlistedParameter
 
-abbrev pub encodedValue : ℕ → ParameterValue → EncodedValue
-encodedValue id value = encodedBy (infoOf id) value
+abbrev pub encodeParameterValue : ℕ → ParameterValue → EncodedValue
+encodeParameterValue id value = encodedBy (parameterInfo id) value
 
 -- ---- payloads: the id in bytes 0 and 1, the value in bytes 4 to 7, low bytes first
 
-abbrev pub readPayload : ℕ → List ℕ
-readPayload id = id % 256 ∷ id / 256 ∷ 0 ∷ 0 ∷ 0 ∷ 0 ∷ 0 ∷ 0 ∷ []
+abbrev pub encodeParameterRead : ℕ → List ℕ
+encodeParameterRead id = id % 256 ∷ id / 256 ∷ 0 ∷ 0 ∷ 0 ∷ 0 ∷ 0 ∷ 0 ∷ []
 
-abbrev pub writePayload : ℕ → ℕ → List ℕ
-writePayload id raw = id % 256 ∷ id / 256 ∷ 0 ∷ 0 ∷ raw % 256 ∷ raw / 256 % 256 ∷ raw / 65536 % 256 ∷ raw / 16777216 ∷ []
+abbrev pub encodeParameterWrite : ℕ → ℕ → List ℕ
+encodeParameterWrite id raw = id % 256 ∷ id / 256 ∷ 0 ∷ 0 ∷ raw % 256 ∷ raw / 256 % 256 ∷ raw / 65536 % 256 ∷ raw / 16777216 ∷ []
 
 -- a reply for an unlisted id is held as U32
 abbrev pub valueBy : ParameterInfo → ℕ → ParameterValue
 valueBy (Listed kind) raw = valueAs kind raw
 valueBy Unlisted raw = U32 raw
 
-abbrev pub readValue : ℕ → List ℕ → ParameterValue
-readValue id payload = valueBy (infoOf id) (le32 payload 4)
+abbrev pub decodeReadParameterValue : ℕ → List ℕ → ParameterValue
+decodeReadParameterValue id payload = valueBy (parameterInfo id) (le32 payload 4)

@@ -1,7 +1,7 @@
 // A fault report: two 32-bit words, and the flags that are their bits.
 use crate::bus::join32;
 ghost use mathlib.Core.Path.{_≡_};
-ghost use Rattle.codec.specs.Faults.{faultFlags, warningFlags, faultReport};
+ghost use Rattle.codec.specs.Faults.{faultFlags, warningFlags, decodeFaultReport};
 
 pub struct FaultFlags {
     pub phase_a_overcurrent: bool,
@@ -58,7 +58,7 @@ fn warning_flags(warning_raw: u32) -> WarningFlags
 
 // A fault report's payload, decoded.
 pub fn decode_fault_report(payload: [u8; 8]) -> FaultReport
-    ensures { λ r. ⌜ r ≡ faultReport payload ⌝ }
+    ensures { λ r. ⌜ r ≡ decodeFaultReport payload ⌝ }
 {
     let fault_raw = join32(payload[0], payload[1], payload[2], payload[3]);
     let warning_raw = join32(payload[4], payload[5], payload[6], payload[7]);

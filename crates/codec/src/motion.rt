@@ -3,7 +3,7 @@
 use crate::model::Limits;
 ghost use mathlib.Core.Path.{_≡_};
 ghost use lib.Ieee.{toUnsigned};
-ghost use Rattle.codec.specs.Motion.{clamped, motionRaw, gainRaw, rawPayload, mitCommand};
+ghost use Rattle.codec.specs.Motion.{clamp, motionRaw, gainRaw, rawPayload, encodeMitCommand};
 
 // A motion command: the extra field and the payload of its frame.
 pub struct MitCommand {
@@ -13,7 +13,7 @@ pub struct MitCommand {
 
 // v held between lo and hi; a NaN stays.
 fn clamp(v: f32, lo: f32, hi: f32) -> f32
-    ensures { λ r. ⌜ r ≡ clamped v lo hi ⌝ }
+    ensures { λ r. ⌜ r ≡ clamp v lo hi ⌝ }
 {
     if v < lo {
         return lo;
@@ -90,7 +90,7 @@ pub fn encode_mit_command(
     torque: f32,
     limits: Limits,
 ) -> MitCommand
-    ensures { λ r. ⌜ r ≡ mitCommand position velocity kp kd torque limits ⌝ }
+    ensures { λ r. ⌜ r ≡ encodeMitCommand position velocity kp kd torque limits ⌝ }
 {
     let payload = raw_payload(
         motion_raw(position, limits.position),

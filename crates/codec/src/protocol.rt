@@ -11,9 +11,9 @@ use crate::word::Word;
 use crate::word::byte_of;
 use crate::word::signed_of;
 ghost use mathlib.Core.Path.{_≡_};
-ghost use Rattle.codec.specs.Ids.{joined, split};
-ghost use Rattle.codec.specs.Values.{readPayload, writePayload, valueAs, readValue, kindIn, rawOf, encodedValue};
-ghost use Rattle.codec.specs.Replies.{protocolChecked, setProtocol};
+ghost use Rattle.codec.specs.Ids.{buildExtId, extIdParts};
+ghost use Rattle.codec.specs.Values.{encodeParameterRead, encodeParameterWrite, valueAs, decodeReadParameterValue, kindIn, rawOf, encodeParameterValue};
+ghost use Rattle.codec.specs.Replies.{validateProtocolCmd, encodeSetProtocol};
 
 // The type of a frame: the five bits at the top of its id.
 pub struct CommunicationType;
@@ -58,7 +58,7 @@ pub const PROTOCOL_MIT: u8 = 2;
 
 // A protocol command is one of the three; any other is 12.
 pub fn validate_protocol_cmd(protocol_cmd: u8) -> Checked
-    ensures { λ r. ⌜ r ≡ protocolChecked «protocol_cmd» ⌝ }
+    ensures { λ r. ⌜ r ≡ validateProtocolCmd «protocol_cmd» ⌝ }
 {
     if protocol_cmd > PROTOCOL_MIT {
         return Checked::Refused(Refusal::UnknownProtocol);
@@ -74,7 +74,7 @@ pub struct SetProtocol {
 
 // The payload of a protocol command.
 pub fn encode_set_protocol(protocol_cmd: u8) -> SetProtocol
-    ensures { λ r. ⌜ r ≡ setProtocol «protocol_cmd» ⌝ }
+    ensures { λ r. ⌜ r ≡ encodeSetProtocol «protocol_cmd» ⌝ }
 {
     let said = validate_protocol_cmd(protocol_cmd);
     let Checked::Passed = said else {
@@ -100,14 +100,14 @@ pub struct IdParts {
 
 // The id of a frame of this type, extra field and node; the type is reduced modulo 256.
 pub fn build_ext_id(comm_type: u32, extra_data: u16, node_id: u8) -> u32
-    ensures { λ r. ⌜ r ≡ joined «comm_type» «extra_data» «node_id» ⌝ }
+    ensures { λ r. ⌜ r ≡ buildExtId «comm_type» «extra_data» «node_id» ⌝ }
 {
     (comm_type << 24) | ((extra_data as u32) << 8) | (node_id as u32)
 }
 
 // An id taken apart: 5, 16 and 8 bits, the top three bits not looked at.
 pub fn ext_id_parts(arbitration_id: u32) -> IdParts
-    ensures { λ r. ⌜ r ≡ split «arbitration_id» ⌝ }
+    ensures { λ r. ⌜ r ≡ extIdParts «arbitration_id» ⌝ }
 {
     IdParts {
         comm_type: (arbitration_id >> 24) & 0x1F,
@@ -129,7 +129,7 @@ pub enum ParameterValue {
 
 // The payload that asks for a parameter: its id, low byte first, then zeros.
 pub fn encode_parameter_read(param_id: u16) -> [u8; 8]
-    ensures { λ r. ⌜ r ≡ readPayload «param_id» ⌝ }
+    ensures { λ r. ⌜ r ≡ encodeParameterRead «param_id» ⌝ }
 {
     [
         (param_id % 256) as u8,
@@ -145,7 +145,7 @@ pub fn encode_parameter_read(param_id: u16) -> [u8; 8]
 
 // The payload that writes a parameter: its id and the four raw bytes, each low byte first.
 pub fn encode_parameter_write(param_id: u16, raw_value: u32) -> [u8; 8]
-    ensures { λ r. ⌜ r ≡ writePayload «param_id» «raw_value» ⌝ }
+    ensures { λ r. ⌜ r ≡ encodeParameterWrite «param_id» «raw_value» ⌝ }
 {
     [
         (param_id % 256) as u8,
@@ -174,7 +174,7 @@ fn value_as(kind: ParameterDataType, raw: u32) -> ParameterValue
 
 // The value that a read reply's payload carries for a parameter, by its kind; U32 if it is unlisted.
 pub fn decode_read_parameter_value(param_id: u16, payload: [u8; 8]) -> ParameterValue
-    ensures { λ r. ⌜ r ≡ readValue «param_id» payload ⌝ }
+    ensures { λ r. ⌜ r ≡ decodeReadParameterValue «param_id» payload ⌝ }
 {
     let raw = join32(payload[4], payload[5], payload[6], payload[7]);
     let ParameterInfo::Listed(kind) = parameter_info(param_id) else {
@@ -217,7 +217,7 @@ fn raw_of(value: ParameterValue) -> u32
 
 // The raw bytes of a value for a parameter: 10 if the id is unlisted, 11 if the kind differs.
 pub fn encode_parameter_value(param_id: u16, value: ParameterValue) -> EncodedValue
-    ensures { λ r. ⌜ r ≡ encodedValue «param_id» value ⌝ }
+    ensures { λ r. ⌜ r ≡ encodeParameterValue «param_id» value ⌝ }
 {
     let ParameterInfo::Listed(kind) = parameter_info(param_id) else {
         return EncodedValue::Refused(Refusal::UnlistedParameter);

@@ -1,8 +1,8 @@
 // The parameters: their ids and kinds, and the run modes that parameter 7005 holds.
 use crate::error::Refusal;
 ghost use mathlib.Core.Path.{_≡_};
-ghost use Rattle.codec.specs.Kinds.{infoOf, kindNumber, codedAs};
-ghost use Rattle.codec.specs.Modes.{modeRead, modeNumber};
+ghost use Rattle.codec.specs.Kinds.{parameterInfo, kindNumber, codedAs};
+ghost use Rattle.codec.specs.Modes.{controlModeFromRaw, controlModeNumber};
 
 pub enum ParameterDataType {
     Int8,
@@ -145,7 +145,7 @@ fn coded_as(code: u32) -> ParameterInfo
 
 // The kind of a parameter, if it is listed.
 pub fn parameter_info(id: u16) -> ParameterInfo
-    ensures { λ r. ⌜ r ≡ infoOf id ⌝ }
+    ensures { λ r. ⌜ r ≡ parameterInfo id ⌝ }
 {
     let wanted = id as u32;
     let table = PARAMETER_TABLE;
@@ -175,7 +175,7 @@ pub enum ModeRead {
 impl ControlMode {
     // The mode that a run_mode value names; 17 for any other value.
     pub fn from_raw(value: i8) -> ModeRead
-        ensures { λ r. ⌜ r ≡ modeRead value ⌝ }
+        ensures { λ r. ⌜ r ≡ controlModeFromRaw value ⌝ }
     {
         if value == 0 {
             return ModeRead::Mode(ControlMode::Mit);
@@ -194,7 +194,7 @@ impl ControlMode {
 
     // The run_mode value of a mode.
     pub fn number(self) -> i8
-        ensures { λ r. ⌜ r ≡ modeNumber self ⌝ }
+        ensures { λ r. ⌜ r ≡ controlModeNumber self ⌝ }
     {
         match self {
             ControlMode::Mit => 0,

@@ -4,7 +4,7 @@ use crate::error::Refusal;
 use crate::protocol::CommunicationType;
 use crate::protocol::ext_id_parts;
 ghost use mathlib.Core.Path.{_≡_};
-ghost use Rattle.codec.specs.Replies.{versionRequest, isVersion, noVersion, aVersion, versionAnswer, noPing, aPing, pingAnswer};
+ghost use Rattle.codec.specs.Replies.{encodeVersionRequest, isVersionReply, notVersionReply, passedVersion, decodeVersionReply, notPingReply, passedPing, decodePingReply};
 
 pub struct PingReply {
     pub device_id: u8,
@@ -33,14 +33,14 @@ pub const VERSION_REQUEST_MARKER: u8 = 0xC4;
 
 // The payload that, in a type 4 frame, asks for the firmware's version.
 pub fn encode_version_request() -> [u8; 8]
-    ensures { λ r. ⌜ r ≡ versionRequest ⌝ }
+    ensures { λ r. ⌜ r ≡ encodeVersionRequest ⌝ }
 {
     [0, VERSION_REQUEST_MARKER, 0, 0, 0, 0, 0, 0]
 }
 
 // Whether a frame is a version reply: type 2, and a payload that begins 00 C4 56.
 pub fn is_version_reply(arbitration_id: u32, payload: [u8; 8]) -> bool
-    ensures { λ r. ⌜ r ≡ isVersion «arbitration_id» payload ⌝ }
+    ensures { λ r. ⌜ r ≡ isVersionReply «arbitration_id» payload ⌝ }
 {
     let parts = ext_id_parts(arbitration_id);
     if parts.comm_type != CommunicationType::OPERATION_STATUS {
@@ -57,7 +57,7 @@ pub fn is_version_reply(arbitration_id: u32, payload: [u8; 8]) -> bool
 
 // 23, beside a reply of zeros.
 fn not_version_reply() -> VersionAnswer
-    ensures { λ r. ⌜ r ≡ noVersion ⌝ }
+    ensures { λ r. ⌜ r ≡ notVersionReply ⌝ }
 {
     VersionAnswer {
         said: Checked::Refused(Refusal::NotVersionReply),
@@ -70,7 +70,7 @@ fn not_version_reply() -> VersionAnswer
 
 // A reply that passed.
 fn passed_version(reply: VersionReply) -> VersionAnswer
-    ensures { λ r. ⌜ r ≡ aVersion reply ⌝ }
+    ensures { λ r. ⌜ r ≡ passedVersion reply ⌝ }
 {
     VersionAnswer {
         said: Checked::Passed,
@@ -80,7 +80,7 @@ fn passed_version(reply: VersionReply) -> VersionAnswer
 
 // A version reply decoded; 23 if the frame is none.
 pub fn decode_version_reply(arbitration_id: u32, payload: [u8; 8]) -> VersionAnswer
-    ensures { λ r. ⌜ r ≡ versionAnswer «arbitration_id» payload ⌝ }
+    ensures { λ r. ⌜ r ≡ decodeVersionReply «arbitration_id» payload ⌝ }
 {
     if !is_version_reply(arbitration_id, payload) {
         return not_version_reply();
@@ -94,7 +94,7 @@ pub fn decode_version_reply(arbitration_id: u32, payload: [u8; 8]) -> VersionAns
 
 // 22, beside a reply of zeros.
 fn not_ping_reply() -> PingAnswer
-    ensures { λ r. ⌜ r ≡ noPing ⌝ }
+    ensures { λ r. ⌜ r ≡ notPingReply ⌝ }
 {
     PingAnswer {
         said: Checked::Refused(Refusal::NotPingReply),
@@ -108,7 +108,7 @@ fn not_ping_reply() -> PingAnswer
 
 // A reply that passed.
 fn passed_ping(reply: PingReply) -> PingAnswer
-    ensures { λ r. ⌜ r ≡ aPing reply ⌝ }
+    ensures { λ r. ⌜ r ≡ passedPing reply ⌝ }
 {
     PingAnswer {
         said: Checked::Passed,
@@ -118,7 +118,7 @@ fn passed_ping(reply: PingReply) -> PingAnswer
 
 // A ping reply decoded; 22 if the frame is none.
 pub fn decode_ping_reply(arbitration_id: u32, payload: [u8; 8]) -> PingAnswer
-    ensures { λ r. ⌜ r ≡ pingAnswer «arbitration_id» payload ⌝ }
+    ensures { λ r. ⌜ r ≡ decodePingReply «arbitration_id» payload ⌝ }
 {
     let parts = ext_id_parts(arbitration_id);
     if parts.comm_type != CommunicationType::GET_DEVICE_ID {

@@ -3,7 +3,7 @@
 use crate::bus::join16;
 use crate::model::Limits;
 ghost use mathlib.Core.Path.{_≡_};
-ghost use Rattle.codec.specs.Status.{statusValue, temperatureOf, statusFlags, statusFrame};
+ghost use Rattle.codec.specs.Status.{statusValue, temperatureOf, statusFlags, decodeStatusFrame};
 
 pub struct StatusFlags {
     pub mode_state: u8,
@@ -56,7 +56,7 @@ fn status_flags(extra_data: u16) -> StatusFlags
 
 // A status frame's extra field and payload, decoded by the model's limits.
 pub fn decode_status_frame(extra_data: u16, payload: [u8; 8], limits: Limits) -> StatusFrame
-    ensures { λ r. ⌜ r ≡ statusFrame «extra_data» payload limits ⌝ }
+    ensures { λ r. ⌜ r ≡ decodeStatusFrame «extra_data» payload limits ⌝ }
 {
     let flags = status_flags(extra_data);
     StatusFrame {

@@ -28,7 +28,7 @@ use Rattle.codec.specs.declared.status.StatusFlags.{StatusFlags}
 use Rattle.codec.specs.declared.status.StatusFrame.{StatusFrame}
 use Rattle.codec.specs.Refusals.{numberOf}
 use Rattle.codec.specs.Kinds.{kindNumber}
-use Rattle.codec.specs.Modes.{modeNumber}
+use Rattle.codec.specs.Modes.{controlModeNumber}
 use Rattle.codec.specs.Values.{valueAs, le32}
 use Rattle.codec.specs.Motion.{whole}
 use Rattle.codec_abi.specs.Packing.{refusalIn, flag}
@@ -47,7 +47,7 @@ infoNumber Unlisted = 0
 
 -- a mode's own number, or 256 + the refusal's
 abbrev pub modeAnswer : ModeRead → ℕ
-modeAnswer (mode.Mode m) = ofZ w8 (modeNumber m)
+modeAnswer (mode.Mode m) = ofZ w8 (controlModeNumber m)
 modeAnswer (mode.Refused refusal) = 256 + numberOf refusal
 
 -- the kind that a number names; any other number than 1 to 4 names Float32

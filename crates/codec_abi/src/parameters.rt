@@ -12,10 +12,10 @@ use codec::word::Word;
 use codec::word::byte_of;
 use codec::word::signed_of;
 ghost use mathlib.Core.Path.{_≡_};
-ghost use Rattle.codec.specs.Kinds.{infoOf, kindNumber};
-ghost use Rattle.codec.specs.Modes.{modeRead};
-ghost use Rattle.codec.specs.Replies.{protocolChecked, setProtocol};
-ghost use Rattle.codec.specs.Values.{readPayload, writePayload, encodedValue, readValue, kindIn, rawOf};
+ghost use Rattle.codec.specs.Kinds.{parameterInfo, kindNumber};
+ghost use Rattle.codec.specs.Modes.{controlModeFromRaw};
+ghost use Rattle.codec.specs.Replies.{validateProtocolCmd, encodeSetProtocol};
+ghost use Rattle.codec.specs.Values.{encodeParameterRead, encodeParameterWrite, encodeParameterValue, decodeReadParameterValue, kindIn, rawOf};
 ghost use Rattle.codec_abi.specs.Packing.{payloadOf, packed, refusalIn};
 ghost use Rattle.codec_abi.specs.Numbers.{infoNumber, modeAnswer, typedValue, encodedRefusal, encodedRaw};
 
@@ -35,7 +35,7 @@ fn kind_number(kind: ParameterDataType) -> u8
 // The number of a parameter's kind, 0 if it is unlisted.
 #[no_mangle]
 pub extern "C" fn codec_parameter_info(id: u16) -> u8
-    ensures { λ r. ⌜ r ≡ infoNumber (infoOf id) ⌝ }
+    ensures { λ r. ⌜ r ≡ infoNumber (parameterInfo id) ⌝ }
 {
     let ParameterInfo::Listed(kind) = codec::registers::parameter_info(id) else {
         return 0;
@@ -46,7 +46,7 @@ pub extern "C" fn codec_parameter_info(id: u16) -> u8
 // The mode that a run_mode value names, as its own number, or 256 + the refusal's number.
 #[no_mangle]
 pub extern "C" fn codec_mode_from_raw(value: i8) -> u16
-    ensures { λ r. ⌜ r ≡ modeAnswer (modeRead value) ⌝ }
+    ensures { λ r. ⌜ r ≡ modeAnswer (controlModeFromRaw value) ⌝ }
 {
     match ControlMode::from_raw(value) {
         ModeRead::Mode(mode) => byte_of(mode.number()) as u16,
@@ -57,7 +57,7 @@ pub extern "C" fn codec_mode_from_raw(value: i8) -> u16
 // The refusal of a protocol command.
 #[no_mangle]
 pub extern "C" fn codec_validate_protocol_cmd(cmd: u8) -> u8
-    ensures { λ r. ⌜ r ≡ refusalIn (protocolChecked cmd) ⌝ }
+    ensures { λ r. ⌜ r ≡ refusalIn (validateProtocolCmd cmd) ⌝ }
 {
     refusal_in(codec::protocol::validate_protocol_cmd(cmd))
 }
@@ -65,7 +65,7 @@ pub extern "C" fn codec_validate_protocol_cmd(cmd: u8) -> u8
 // The payload of a protocol command, and its refusal.
 #[no_mangle]
 pub extern "C" fn codec_encode_set_protocol(cmd: u8, payload: &mut u64) -> u8
-    ensures { λ r. ⌜ (r ≡ refusalIn (setProtocol cmd .said)) × (now (payload .exit) ≡ packed (setProtocol cmd .payload)) ⌝ }
+    ensures { λ r. ⌜ (r ≡ refusalIn (encodeSetProtocol cmd .said)) × (now (payload .exit) ≡ packed (encodeSetProtocol cmd .payload)) ⌝ }
 {
     let answer = codec::protocol::encode_set_protocol(cmd);
     let said = answer.said;
@@ -77,7 +77,7 @@ pub extern "C" fn codec_encode_set_protocol(cmd: u8, payload: &mut u64) -> u8
 // The payload that asks for a parameter.
 #[no_mangle]
 pub extern "C" fn codec_encode_parameter_read(id: u16) -> u64
-    ensures { λ r. ⌜ r ≡ packed (readPayload id) ⌝ }
+    ensures { λ r. ⌜ r ≡ packed (encodeParameterRead id) ⌝ }
 {
     packed(codec::protocol::encode_parameter_read(id))
 }
@@ -85,7 +85,7 @@ pub extern "C" fn codec_encode_parameter_read(id: u16) -> u64
 // The payload that writes a parameter.
 #[no_mangle]
 pub extern "C" fn codec_encode_parameter_write(id: u16, raw: u32) -> u64
-    ensures { λ r. ⌜ r ≡ packed (writePayload id raw) ⌝ }
+    ensures { λ r. ⌜ r ≡ packed (encodeParameterWrite id raw) ⌝ }
 {
     packed(codec::protocol::encode_parameter_write(id, raw))
 }
@@ -113,7 +113,7 @@ fn typed_value(kind: u8, bits: u32) -> ParameterValue
 // kind that is not 1 to 5 counts as 5.
 #[no_mangle]
 pub extern "C" fn codec_encode_parameter_value(id: u16, kind: u8, bits: u32, raw: &mut u32) -> u8
-    ensures { λ r. ⌜ (r ≡ encodedRefusal (encodedValue id (typedValue kind bits))) × (now (raw .exit) ≡ encodedRaw (encodedValue id (typedValue kind bits))) ⌝ }
+    ensures { λ r. ⌜ (r ≡ encodedRefusal (encodeParameterValue id (typedValue kind bits))) × (now (raw .exit) ≡ encodedRaw (encodeParameterValue id (typedValue kind bits))) ⌝ }
 {
     match codec::protocol::encode_parameter_value(id, typed_value(kind, bits)) {
         EncodedValue::Raw(n) => {
@@ -141,7 +141,7 @@ fn kind_in(value: ParameterValue) -> u8
 }
 
 // A value's bits.
-fn bits_of(value: ParameterValue) -> u32
+fn raw_of(value: ParameterValue) -> u32
     ensures { λ r. ⌜ r ≡ rawOf value ⌝ }
 {
     match value {
@@ -156,9 +156,9 @@ fn bits_of(value: ParameterValue) -> u32
 // The kind and the bits of the value that a read reply's payload carries for a parameter.
 #[no_mangle]
 pub extern "C" fn codec_decode_read_parameter_value(id: u16, payload: u64, bits: &mut u32) -> u8
-    ensures { λ r. ⌜ (r ≡ kindNumber (kindIn (readValue id (payloadOf payload)))) × (now (bits .exit) ≡ rawOf (readValue id (payloadOf payload))) ⌝ }
+    ensures { λ r. ⌜ (r ≡ kindNumber (kindIn (decodeReadParameterValue id (payloadOf payload)))) × (now (bits .exit) ≡ rawOf (decodeReadParameterValue id (payloadOf payload))) ⌝ }
 {
     let value = codec::protocol::decode_read_parameter_value(id, payload_of(payload));
-    *bits = bits_of(value);
+    *bits = raw_of(value);
     kind_in(value)
 }

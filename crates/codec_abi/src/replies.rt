@@ -7,8 +7,8 @@ use crate::packing::refusal_in;
 use codec::faults::FaultFlags;
 ghost use mathlib.Core.Path.{_≡_};
 ghost use Prim.Native.Nat.{_≤_};
-ghost use Rattle.codec.specs.Faults.{faultReport};
-ghost use Rattle.codec.specs.Replies.{versionRequest, isVersion, versionAnswer, pingAnswer};
+ghost use Rattle.codec.specs.Faults.{decodeFaultReport};
+ghost use Rattle.codec.specs.Replies.{encodeVersionRequest, isVersionReply, decodeVersionReply, decodePingReply};
 ghost use Rattle.codec_abi.specs.Packing.{payloadOf, packed};
 ghost use Rattle.codec_abi.specs.Numbers.{faultBits, reportBits, reportNumber, pingNumber, versionNumber, versionBytes};
 
@@ -33,7 +33,7 @@ fn fault_bits(f: FaultFlags) -> u16
 // the overtemperature warning.
 #[no_mangle]
 pub extern "C" fn codec_decode_fault_report(payload: u64, flags: &mut u16) -> u64
-    ensures { λ r. ⌜ (r ≡ reportNumber (faultReport (payloadOf payload))) × (now (flags .exit) ≡ reportBits (faultReport (payloadOf payload))) ⌝ }
+    ensures { λ r. ⌜ (r ≡ reportNumber (decodeFaultReport (payloadOf payload))) × (now (flags .exit) ≡ reportBits (decodeFaultReport (payloadOf payload))) ⌝ }
 {
     let report = codec::faults::decode_fault_report(payload_of(payload));
     let faults = report.faults;
@@ -45,7 +45,7 @@ pub extern "C" fn codec_decode_fault_report(payload: u64, flags: &mut u16) -> u6
 // A ping reply: refusal × 2^16 + device × 2^8 + responder, and its payload.
 #[no_mangle]
 pub extern "C" fn codec_decode_ping_reply(id: u32, payload: u64, out: &mut u64) -> u32
-    ensures { λ r. ⌜ (r ≡ pingNumber (pingAnswer id (payloadOf payload))) × (now (out .exit) ≡ packed (pingAnswer id (payloadOf payload) .reply .payload)) ⌝ }
+    ensures { λ r. ⌜ (r ≡ pingNumber (decodePingReply id (payloadOf payload))) × (now (out .exit) ≡ packed (decodePingReply id (payloadOf payload) .reply .payload)) ⌝ }
 {
     let answer = codec::replies::decode_ping_reply(id, payload_of(payload));
     let said = answer.said;
@@ -60,7 +60,7 @@ pub extern "C" fn codec_decode_ping_reply(id: u32, payload: u64, out: &mut u64) 
 // The payload of a version request.
 #[no_mangle]
 pub extern "C" fn codec_encode_version_request() -> u64
-    ensures { λ r. ⌜ r ≡ packed versionRequest ⌝ }
+    ensures { λ r. ⌜ r ≡ packed encodeVersionRequest ⌝ }
 {
     packed(codec::replies::encode_version_request())
 }
@@ -68,7 +68,7 @@ pub extern "C" fn codec_encode_version_request() -> u64
 // Whether a frame is a version reply.
 #[no_mangle]
 pub extern "C" fn codec_is_version_reply(id: u32, payload: u64) -> bool
-    ensures { λ r. ⌜ r ≡ isVersion id (payloadOf payload) ⌝ }
+    ensures { λ r. ⌜ r ≡ isVersionReply id (payloadOf payload) ⌝ }
 {
     codec::replies::is_version_reply(id, payload_of(payload))
 }
@@ -76,7 +76,7 @@ pub extern "C" fn codec_is_version_reply(id: u32, payload: u64) -> bool
 // A version reply: refusal × 2^16 + device, and the version, byte 0 lowest.
 #[no_mangle]
 pub extern "C" fn codec_decode_version_reply(id: u32, payload: u64, version: &mut u32) -> u32
-    ensures { λ r. ⌜ (r ≡ versionNumber (versionAnswer id (payloadOf payload))) × (now (version .exit) ≡ versionBytes (versionAnswer id (payloadOf payload))) ⌝ }
+    ensures { λ r. ⌜ (r ≡ versionNumber (decodeVersionReply id (payloadOf payload))) × (now (version .exit) ≡ versionBytes (decodeVersionReply id (payloadOf payload))) ⌝ }
 {
     let answer = codec::replies::decode_version_reply(id, payload_of(payload));
     let said = answer.said;

@@ -10,8 +10,8 @@ ghost use mathlib.Core.Path.{_≡_};
 ghost use Prim.Native.Nat.{_≤_};
 ghost use Rattle.codec.specs.Words.{valueOf, wordOf};
 ghost use Rattle.codec.specs.Models.{modelLimits};
-ghost use Rattle.codec.specs.Motion.{motionRaw, gainRaw, mitCommand};
-ghost use Rattle.codec.specs.Status.{statusValue, temperatureOf, statusFrame};
+ghost use Rattle.codec.specs.Motion.{motionRaw, gainRaw, encodeMitCommand};
+ghost use Rattle.codec.specs.Status.{statusValue, temperatureOf, decodeStatusFrame};
 ghost use Rattle.codec_abi.specs.Packing.{payloadOf, packed};
 ghost use Rattle.codec_abi.specs.Numbers.{wordAt, allLimits, motionLimits, limitsRefusal, limitsList, statusBits, statusNumber, statusList};
 
@@ -103,7 +103,7 @@ pub extern "C" fn codec_encode_mit_command(
     kd_max: f32,
     payload: &mut u64,
 ) -> u16
-    ensures { λ r. ⌜ (r ≡ mitCommand position velocity kp kd torque (allLimits pmax vmax tmax «kp_max» «kd_max») .«extra_data») × (now (payload .exit) ≡ packed (mitCommand position velocity kp kd torque (allLimits pmax vmax tmax «kp_max» «kd_max») .payload)) ⌝ }
+    ensures { λ r. ⌜ (r ≡ encodeMitCommand position velocity kp kd torque (allLimits pmax vmax tmax «kp_max» «kd_max») .«extra_data») × (now (payload .exit) ≡ packed (encodeMitCommand position velocity kp kd torque (allLimits pmax vmax tmax «kp_max» «kd_max») .payload)) ⌝ }
 {
     let limits = Limits {
         position: pmax,
@@ -141,7 +141,7 @@ pub extern "C" fn codec_decode_status_frame(
     tmax: f32,
     values: &mut [f32; 4],
 ) -> u32
-    ensures { λ r. ⌜ (r ≡ statusNumber (statusFrame «extra_data» (payloadOf payload) (motionLimits pmax vmax tmax) .flags)) × (now (values .exit) ≡ statusList (statusFrame «extra_data» (payloadOf payload) (motionLimits pmax vmax tmax))) ⌝ }
+    ensures { λ r. ⌜ (r ≡ statusNumber (decodeStatusFrame «extra_data» (payloadOf payload) (motionLimits pmax vmax tmax) .flags)) × (now (values .exit) ≡ statusList (decodeStatusFrame «extra_data» (payloadOf payload) (motionLimits pmax vmax tmax))) ⌝ }
 {
     let limits = Limits {
         position: pmax,

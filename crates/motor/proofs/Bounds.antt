@@ -20,13 +20,13 @@ use Rattle.motor.specs.declared.engine.operation.Phase.{Phase}
 use Rattle.motor.specs.declared.engine.operation.Phase.the-variants as phase
 use Rattle.motor.specs.declared.motor.State.{State}
 use Rattle.motor.specs.Limits.{latestTime, longestTimeout, mostDueSteps}
-use Rattle.motor.specs.Bounds.{Event, start, step, frame, other, after, afterAll, hasFrame, sends, passes, isDue, once, count, limitOf, GivenWithin, Given, Accepted, Bounds}
+use Rattle.motor.specs.Bounds.{LoneEvent, start, step, frame, other, after, afterAll, hasFrame, sends, passes, isDue, once, count, limitOf, GivenWithin, Given, Accepted, Bounds}
 use Rattle.motor.specs.Calls.{isIdle, arguedOf, orElse, startSaid, stepSaid, sightOf, wanted}
 use Rattle.motor.specs.Lone.{Lone, LoneAnswered, loneNew, loneMoved, loneStartBy, loneStart, loneStepBy, loneStep, hears}
-use Rattle.motor.specs.engine.Operations.{begins}
+use Rattle.motor.specs.engine.Operations.{beginsWith}
 use Rattle.motor.specs.Readings.{lookup, room}
-use Rattle.motor.specs.Receive.{accepts, late, counted, told, isRead, readId, readStatus, frameSaid, stateAfter}
-use Rattle.motor.specs.engine.Run.{advance, begin}
+use Rattle.motor.specs.Receive.{acceptsFrame, isLate, countedAt, toldBy, isRead, readId, readStatus, frameSaid, stateAfter}
+use Rattle.motor.specs.engine.Run.{advanced, begunBy}
 use Rattle.motor.proofs.Follows.{begin-fits}
 use Rattle.motor.proofs.Measures.{by-test, nodeLeft, restLeft, phaseLeft, opLeft}
 use Rattle.motor.proofs.MovesBounded.{Moved, enter-moves, advance-moves}
@@ -37,13 +37,13 @@ abbrev opOf : Lone → Operation
 opOf l = l .state .operation
 
 abbrev stepped : Lone → ℕ → Move
-stepped l now = advance (sightOf (l .state)) now (opOf l) (wanted (opOf l .phase) (λ id. lookup id (l .readings))) (opOf l .phase)
+stepped l now = advanced (sightOf (l .state)) now (opOf l) (wanted (opOf l .phase) (λ id. lookup id (l .readings))) (opOf l .phase)
 
 -- the move that begins an operation
 started : (f d now : ℕ) (l : Lone) (c : Command)
-    → Moved f d longestTimeout now (omega arith) (nodeLeft f d (begins c)) (begin (sightOf (l .state)) now c)
+    → Moved f d longestTimeout now (omega arith) (nodeLeft f d (beginsWith c)) (begunBy (sightOf (l .state)) now c)
 started f d now l c =
-    enter-moves f d longestTimeout now (omega arith) (nodeLeft f d (begins c)) (nodeLeft f d (begins c)) (sightOf (l .state)) (begins c)
+    enter-moves f d longestTimeout now (omega arith) (nodeLeft f d (beginsWith c)) (nodeLeft f d (beginsWith c)) (sightOf (l .state)) (beginsWith c)
     (omega arith, begin-fits c .3) (omega arith)
 
 -- most: how far due times may lie from now
@@ -55,7 +55,7 @@ step-moves f d most now far l small near =
 
 -- a frame leaves the operation
 frame-keeps : (l : Lone) (x : CanFrame) (now : ℕ) → opOf (hears l x now .lone) ≡ opOf l
-unfolding hears stateAfter told counted
+unfolding hears stateAfter toldBy countedAt
 frame-keeps l x now = go (frameSaid (l .state) x now (not (room (readId x) (l .readings))))
   where
     go : (said : Checked) → stateAfter said (l .state) x now .operation ≡ opOf l
@@ -88,9 +88,9 @@ module _ (f d : ℕ) where
   start-spends : (l : Lone) (c : Command) (now : ℕ) (p : Phase) → isIdle p ≡ false → StartSpends l c now (startSaid (l .state .clock) p c now)
   start-spends l c now phase.Idle e = let z : _≡_ {A = ℕ} 0 1 = cc in absurd (omega arith)
   start-spends l c now (phase.Pausing k) e =
-      by-test (λ t x. StartSpends l c now (orElse x (arguedOf c))) (late (l .state .clock) now) (λ e. omega arith) (λ e. omega arith)
+      by-test (λ t x. StartSpends l c now (orElse x (arguedOf c))) (isLate (l .state .clock) now) (λ e. omega arith) (λ e. omega arith)
   start-spends l c now (phase.Waiting w) e =
-      by-test (λ t x. StartSpends l c now (orElse x (arguedOf c))) (late (l .state .clock) now) (λ e. omega arith) (λ e. omega arith)
+      by-test (λ t x. StartSpends l c now (orElse x (arguedOf c))) (isLate (l .state .clock) now) (λ e. omega arith) (λ e. omega arith)
 
   -- so with a step, refused or not
   step-spends : (l : Lone) (now : ℕ) → isIdle (opOf l .phase) ≡ false → Spends l (after l (step now)) (sends l (step now)) (isDue l (step now))
@@ -104,16 +104,16 @@ module _ (f d : ℕ) where
       go (checked.Refused r) = omega arith
 
   -- so with every event while an operation runs
-  spends : (l : Lone) (e : Event) → isIdle (opOf l .phase) ≡ false → Spends l (after l e) (sends l e) (isDue l e)
+  spends : (l : Lone) (e : LoneEvent) → isIdle (opOf l .phase) ≡ false → Spends l (after l e) (sends l e) (isDue l e)
   spends l (start c now) i = omega (arith, start-spends l c now (opOf l .phase) i)
   spends l (step now) i = step-spends l now i
   spends l (frame x now) i = omega (arith, ap (opLeft f d) (frame-keeps l x now))
   spends l other i = omega arith
 
 -- a number that falls with each event counted bounds the count
-count-below : (test : Lone → Event → Bool) (m : Lone → ℕ)
-    → ((l : Lone) (e : Event) → isIdle (opOf l .phase) ≡ false → m (after l e) + once (test l e) ≤ m l)
-    → (l : Lone) (es : List Event) → count test l es ≤ m l
+count-below : (test : Lone → LoneEvent → Bool) (m : Lone → ℕ)
+    → ((l : Lone) (e : LoneEvent) → isIdle (opOf l .phase) ≡ false → m (after l e) + once (test l e) ≤ m l)
+    → (l : Lone) (es : List LoneEvent) → count test l es ≤ m l
 count-below test m h l [] = omega arith
 count-below test m h l (e ∷ es) =
     by-test (λ t n. n ≤ m l) (isIdle (opOf l .phase)) (λ i. omega arith) (λ i. omega (arith, h l e i, count-below test m h (after l e) es))
@@ -125,8 +125,8 @@ abbrev Timely : State → Type 0
 Timely s = (s .operation .window ≤ longestTimeout) × (s .operation .due ≤ s .clock + longestTimeout)
 
 -- a time that 7 doesn't refuse
-on-time : (clock now : ℕ) → late clock now ≡ false → clock ≤ now
-unfolding late
+on-time : (clock now : ℕ) → isLate clock now ≡ false → clock ≤ now
+unfolding isLate
 on-time clock now = go (ltb now clock) refl
   where
     go : (t : Bool) → ltb now clock ≡ t → (t || ltb latestTime now) ≡ false → clock ≤ now
@@ -136,7 +136,7 @@ on-time clock now = go (ltb now clock) refl
 -- nor does a step that passes come before the clock
 step-on-time : (clock : ℕ) (p : Phase) (now : ℕ) → stepSaid clock p now ≡ checked.Passed → clock ≤ now
 step-on-time clock p now =
-    by-test (λ t x. x ≡ checked.Passed → clock ≤ now) (late clock now)
+    by-test (λ t x. x ≡ checked.Passed → clock ≤ now) (isLate clock now)
     (λ e h. let z : _≡_ {A = ℕ} 0 1 = cc in absurd (omega arith))
     (λ e h. on-time clock now e)
 
@@ -163,18 +163,18 @@ step-timely l now h = go (stepSaid (l .state .clock) (opOf l .phase) now) refl
 
 -- a frame moves the clock forward only
 frame-timely : (l : Lone) (x : CanFrame) (now : ℕ) → Timely (l .state) → Timely (hears l x now .lone .state)
-unfolding hears stateAfter frameSaid told counted among
+unfolding hears stateAfter frameSaid toldBy countedAt among
 frame-timely l x now h =
-    by-test (λ t r. Timely (stateAfter r (l .state) x now)) (not (accepts (l .state .«motor_id») x)) (λ e. h)
+    by-test (λ t r. Timely (stateAfter r (l .state) x now)) (not (acceptsFrame (l .state .«motor_id») x)) (λ e. h)
     (λ e.
-    by-test (λ t r. Timely (stateAfter r (l .state) x now)) (late (l .state .clock) now) (λ e. h)
+    by-test (λ t r. Timely (stateAfter r (l .state) x now)) (isLate (l .state .clock) now) (λ e. h)
     (λ e.
-    let later : Timely (counted (l .state) now) = (h .0, omega (arith, h .1, on-time (l .state .clock) now e)) in
+    let later : Timely (countedAt (l .state) now) = (h .0, omega (arith, h .1, on-time (l .state .clock) now e)) in
     by-test (λ t r. Timely (stateAfter r (l .state) x now)) (isRead x && not (eqb (readStatus x) 0)) (λ e. later)
     (λ e. by-test (λ t r. Timely (stateAfter r (l .state) x now)) (isRead x && not (room (readId x) (l .readings))) (λ e. later) (λ e. later))))
 
 -- whatever comes
-timely : (l : Lone) (es : List Event) → Timely (l .state) → Timely (afterAll l es .state)
+timely : (l : Lone) (es : List LoneEvent) → Timely (l .state) → Timely (afterAll l es .state)
 timely l [] h = h
 timely l (start c now ∷ es) h = timely (after l (start c now)) es (start-timely l c now h .1)
 timely l (step now ∷ es) h = timely (after l (step now)) es (step-timely l now h .1)
@@ -196,16 +196,16 @@ waits-later l now d = go (stepSaid (l .state .clock) (opOf l .phase) now)
 
 -- what an accepted start answers
 abbrev begun : Lone → Command → ℕ → LoneAnswered
-begun l c now = loneMoved l now c (begin (sightOf (l .state)) now c)
+begun l c now = loneMoved l now c (begunBy (sightOf (l .state)) now c)
 
 -- what holds of that holds of the start
 accepted : (l : Lone) (c : Command) (now : ℕ) (P : LoneAnswered → Type 0) → Accepted l c now → P (begun l c now) → P (loneStart l c now)
 accepted l c now P h p = subst (λ (said : Checked). P (loneStartBy said l c now)) (sym h) p
 
-frames-sent : (l : Lone) (es : List Event) → count sends l es ≤ opLeft 1 0 (opOf l)
+frames-sent : (l : Lone) (es : List LoneEvent) → count sends l es ≤ opLeft 1 0 (opOf l)
 frames-sent = count-below sends (λ l. opLeft 1 0 (opOf l)) (λ l e i. omega (arith, spends 1 0 l e i))
 
-due-steps : (l : Lone) (es : List Event) → count isDue l es ≤ opLeft 0 1 (opOf l)
+due-steps : (l : Lone) (es : List LoneEvent) → count isDue l es ≤ opLeft 0 1 (opOf l)
 due-steps = count-below isDue (λ l. opLeft 0 1 (opOf l)) (λ l e i. omega (arith, spends 0 1 l e i))
 
 pub bounds : Bounds

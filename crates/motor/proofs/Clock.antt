@@ -18,12 +18,12 @@ use Rattle.motor.specs.declared.engine.operation.Effect.the-variants as 
 use Rattle.motor.specs.declared.engine.operation.Move.{Move}
 use Rattle.motor.specs.declared.engine.operation.Operation.{Operation}
 use Rattle.motor.specs.declared.engine.operation.Phase.{Phase}
-use Rattle.motor.specs.Calls.{isIdle, arguedOf, admittedOf, startSaid, stepSaid, noCommand, sightOf, movedBy, wanted}
+use Rattle.motor.specs.Calls.{isIdle, arguedOf, startAdmitted, startSaid, stepSaid, noCommand, sightOf, stateBy, wanted}
 use Rattle.motor.specs.Lone.{Lone, LoneAnswered, LoneHeard, loneRefused, loneMoved, loneStart, loneStartBy, loneStep, loneStepBy, hears}
 use Rattle.motor.specs.Numbers.{firstOf}
 use Rattle.motor.specs.Readings.{lookup, insert, room}
-use Rattle.motor.specs.Receive.{accepts, late, isRead, counted, told, readStatus, readId, readStored, frameSaid, stateAfter, readingsAfter}
-use Rattle.motor.specs.engine.Run.{idle, advance, begin}
+use Rattle.motor.specs.Receive.{acceptsFrame, isLate, isRead, countedAt, toldBy, readStatus, readId, readStored, frameSaid, stateAfter, readingsAfter}
+use Rattle.motor.specs.engine.Run.{noOperation, advanced, begunBy}
 use Rattle.motor.proofs.Ends.{Closed, Ends, begin-ends, advance-ends}
 use Rattle.motor.proofs.Stays.{movesBy, moves, heardMoves, Stays, start-stays, step-stays, argued-passed, running}
 
@@ -48,7 +48,7 @@ pub data Outcome (l : Lone) (now : ℕ) (a : LoneAnswered) : Type 0 where
 
 -- failed: no operation runs, and nothing else that is held has changed but the clock
 abbrev pub failed : Lone → ℕ → Lone
-failed l now = record { state = movedBy (l .state) now noCommand idle effect.Nothing; readings = l .readings }
+failed l now = record { state = stateBy (l .state) now noCommand noOperation effect.Nothing; readings = l .readings }
 
 module _ (l : Lone) (now : ℕ) where
   pub start-outcome : (c : Command) → Outcome l now (loneStart l c now)
@@ -62,8 +62,8 @@ module _ (l : Lone) (now : ℕ) where
 
       go : (k : Checked) → startSaid clock p c now ≡ k → Stays k → Outcome l now (loneStartBy k l c now)
       go checked.Passed e h =
-          let v = begin (sightOf (l .state)) now c in
-          moved c v (begin-ends (sightOf (l .state)) now c (argued-passed (admittedOf clock p c now) (arguedOf c) e)) refl
+          let v = begunBy (sightOf (l .state)) now c in
+          moved c v (begin-ends (sightOf (l .state)) now c (argued-passed (startAdmitted clock p c now) (arguedOf c) e)) refl
       go (checked.Refused r) e h = same r h refl
 
   pub step-outcome : Outcome l now (loneStep l now)
@@ -78,8 +78,8 @@ module _ (l : Lone) (now : ℕ) where
       go : (k : Checked) → stepSaid clock p now ≡ k → Stays k → Outcome l now (loneStepBy k l now)
       go checked.Passed e h =
           let f = wanted p (λ id. lookup id (l .readings)) in
-          let v = advance (sightOf (l .state)) now (l .state .operation) f p in
-          moved (l .state .command) v (advance-ends (sightOf (l .state)) now (l .state .operation) f p (running (late clock now) (isIdle p) e)) refl
+          let v = advanced (sightOf (l .state)) now (l .state .operation) f p in
+          moved (l .state .command) v (advance-ends (sightOf (l .state)) now (l .state .operation) f p (running (isLate clock now) (isIdle p) e)) refl
       go (checked.Refused r) e h = same r h refl
 
   clock-by : {a : LoneAnswered} → Outcome l now a → a .lone .state .clock ≡ cond (moves (a .said)) now (l .state .clock)
@@ -123,7 +123,7 @@ module _ (l : Lone) (f : CanFrame) (now : ℕ) where
 
   frame-clock : (a b c d : Bool)
       → heardBy (tested a b c d) .lone .state .clock ≡ cond (heardMoves (tested a b c d)) now (l .state .clock)
-  unfolding stateAfter counted told among
+  unfolding stateAfter countedAt toldBy among
   frame-clock true b c d = refl
   frame-clock false true c d = refl
   frame-clock false false true d = refl
@@ -152,7 +152,7 @@ clock-of l =
     record {
       start = λ c now. clock-by l now (start-outcome l now c);
       step = λ now. clock-by l now (step-outcome l now);
-      frame = λ f now. frame-clock l f now (not (accepts (l .state .«motor_id») f)) (late (l .state .clock) now) (isRead f && not (eqb (readStatus f) 0)) (isRead f && not (room (readId f) (l .readings)));
+      frame = λ f now. frame-clock l f now (not (acceptsFrame (l .state .«motor_id») f)) (isLate (l .state .clock) now) (isRead f && not (eqb (readStatus f) 0)) (isRead f && not (room (readId f) (l .readings)));
     }
 
 -- refused by such a number, the lone motor is the same value
@@ -167,7 +167,7 @@ refused-nothing l =
     record {
       start = λ c now. same-by l now (start-outcome l now c);
       step = λ now. same-by l now (step-outcome l now);
-      frame = λ f now. frame-same l f now (not (accepts (l .state .«motor_id») f)) (late (l .state .clock) now) (isRead f && not (eqb (readStatus f) 0)) (isRead f && not (room (readId f) (l .readings)));
+      frame = λ f now. frame-same l f now (not (acceptsFrame (l .state .«motor_id») f)) (isLate (l .state .clock) now) (isRead f && not (eqb (readStatus f) 0)) (isRead f && not (room (readId f) (l .readings)));
     }
 
 -- refused by the tests of start or step, whatever the number, the whole answer is the refusal beside the same lone motor

@@ -17,8 +17,8 @@ use Rattle.codec.specs.declared.protocol.ParameterValue.the-variants as value
 use Rattle.codec.specs.declared.registers.ParameterDataType.{ParameterDataType}
 use Rattle.codec.specs.declared.registers.ParameterDataType.the-variants.{Int8, UInt8, UInt16, UInt32, Float32}
 use Rattle.codec.specs.declared.registers.ParameterInfo.the-variants as info
-use Rattle.codec.specs.Kinds.{infoOf}
-use Rattle.codec.specs.Values.{le32, widthOf, rawOf, encodedValue, writePayload, readValue}
+use Rattle.codec.specs.Kinds.{parameterInfo}
+use Rattle.codec.specs.Values.{le32, widthOf, rawOf, encodeParameterValue, encodeParameterWrite, decodeReadParameterValue}
 use Rattle.codec.proofs.RoundTrips.{InRange, accepted, echoed}
 use Rattle.codec.proofs.RoundTrips as codec
 use Rattle.codec.proofs.TwosComplement.{byte-lt}
@@ -26,7 +26,7 @@ use Rattle.motor.specs.declared.engine.command.Command.the-variants as c
 use Rattle.motor.specs.declared.engine.operation.Move.{Move}
 use Rattle.motor.specs.declared.engine.reading.Stored.{Stored}
 use Rattle.motor.specs.declared.engine.reading.Found.the-variants.{Held}
-use Rattle.motor.specs.Calls.{encodes, startSaid, admittedOf}
+use Rattle.motor.specs.Calls.{encodes, startSaid, startAdmitted}
 use Rattle.motor.specs.Lone.{Lone, loneStart, hears}
 use Rattle.motor.specs.Readings.{lookup}
 use Rattle.motor.specs.Receive.{isRead, readId, readStored, readingsAfter}
@@ -43,11 +43,11 @@ module _ (m : Lone) (f : CanFrame) (now : ℕ) (read : isRead f ≡ true) (passe
 -- ---- a value that was accepted for writing
 
 -- what the encoder takes is the value's own four bytes, as a number
-taken : (id : ℕ) (v : ParameterValue) → encodes (encodedValue id v) ≡ checked.Passed → encodedValue id v ≡ encoded.Raw (rawOf v)
-taken id v h = go (encodedValue id v) refl h
+taken : (id : ℕ) (v : ParameterValue) → encodes (encodeParameterValue id v) ≡ checked.Passed → encodeParameterValue id v ≡ encoded.Raw (rawOf v)
+taken id v h = go (encodeParameterValue id v) refl h
   where
-    go : (e : EncodedValue) → encodedValue id v ≡ e → encodes e ≡ checked.Passed → encodedValue id v ≡ encoded.Raw (rawOf v)
-    go (encoded.Raw raw) q p = q ∙ ap encoded.Raw (sym (accepted (infoOf id) v raw q .1))
+    go : (e : EncodedValue) → encodeParameterValue id v ≡ e → encodes e ≡ checked.Passed → encodeParameterValue id v ≡ encoded.Raw (rawOf v)
+    go (encoded.Raw raw) q p = q ∙ ap encoded.Raw (sym (accepted (parameterInfo id) v raw q .1))
     go (encoded.Refused r) q p =
         let z : _≡_ {A = ℕ} 0 1 = cc in
         absurd (omega arith)
@@ -64,12 +64,12 @@ either true x y payload p q = p
 either false x y payload p q = q
 
 module _ (l : Lone) (id : ℕ) (v : ParameterValue) (at : ℕ) (ok : startSaid (l .state .clock) (l .state .operation .phase) (command.WriteParameter id v) at ≡ checked.Passed) where
-  pub accepted-raw : encodedValue id v ≡ encoded.Raw (rawOf v)
-  accepted-raw = taken id v (argued-passed (admittedOf (l .state .clock) (l .state .operation .phase) (command.WriteParameter id v) at) (encodes (encodedValue id v)) ok)
+  pub accepted-raw : encodeParameterValue id v ≡ encoded.Raw (rawOf v)
+  accepted-raw = taken id v (argued-passed (startAdmitted (l .state .clock) (l .state .operation .phase) (command.WriteParameter id v) at) (encodes (encodeParameterValue id v)) ok)
 
   -- the write frame carries the id in bytes 0 and 1, the value in bytes 4 to 7
-  pub write-carries : loneStart l (command.WriteParameter id v) at .frame .data ≡ writePayload id (rawOf v)
-  write-carries = rw (ok, accepted-raw) (either (eqb (l .state .«write_wait») 0) _ _ (writePayload id (rawOf v)) refl refl)
+  pub write-carries : loneStart l (command.WriteParameter id v) at .frame .data ≡ encodeParameterWrite id (rawOf v)
+  write-carries = rw (ok, accepted-raw) (either (eqb (l .state .«write_wait») 0) _ _ (encodeParameterWrite id (rawOf v)) refl refl)
 
 -- ---- echo
 
@@ -82,11 +82,11 @@ pub record Carries (payload other : List ℕ) : Type 0 where
   pub byte-2 : getD payload 6 0 ≡ getD other 6 0
   pub byte-3 : getD payload 7 0 ≡ getD other 7 0
 
-carried-id : (f : CanFrame) (id raw : ℕ) → Carries (f .data) (writePayload id raw) → readId f ≡ id
+carried-id : (f : CanFrame) (id raw : ℕ) → Carries (f .data) (encodeParameterWrite id raw) → readId f ≡ id
 unfolding readId
 carried-id f id raw c = omega arith
 
-carried-raw : (payload : List ℕ) (id raw : ℕ) → raw < 2 ^ 32 → Carries payload (writePayload id raw) → le32 payload 4 ≡ raw
+carried-raw : (payload : List ℕ) (id raw : ℕ) → raw < 2 ^ 32 → Carries payload (encodeParameterWrite id raw) → le32 payload 4 ≡ raw
 carried-raw payload id raw h c = omega arith
 
 -- the value is held, whatever lone motor hears the reply, if it isn't refused
@@ -100,10 +100,10 @@ pub echo : (l : Lone) (id : ℕ) (v : ParameterValue) (at : ℕ)
     → lookup id (hears m f now .lone .readings) ≡ Held (record { value = v })
 unfolding readStored
 echo l id v at ok range m f now read c passed =
-    let d : Carries (f .data) (writePayload id (rawOf v)) = rw (write-carries l id v at ok) at c in
+    let d : Carries (f .data) (encodeParameterWrite id (rawOf v)) = rw (write-carries l id v at ok) at c in
     let i : readId f ≡ id = carried-id f id (rawOf v) d in
-    let r : readValue id (f .data) ≡ v = echoed id (rawOf v) v (f .data) range (accepted-raw l id v at ok) (carried-raw (f .data) id (rawOf v) (raw-lt v range) d) in
-    let h : lookup id (hears m f now .lone .readings) ≡ Held (record { value = readValue id (f .data) }) = rw i at (heard-held m f now read passed) in
+    let r : decodeReadParameterValue id (f .data) ≡ v = echoed id (rawOf v) v (f .data) range (accepted-raw l id v at ok) (carried-raw (f .data) id (rawOf v) (raw-lt v range) d) in
+    let h : lookup id (hears m f now .lone .readings) ≡ Held (record { value = decodeReadParameterValue id (f .data) }) = rw i at (heard-held m f now read passed) in
     rw r at h
 
 -- ---- written out
@@ -132,7 +132,7 @@ module _ (payload : List ℕ) (small : (i : ℕ) → getD payload i 0 < 256) whe
   small-raw : le32 payload 4 < 2 ^ 32
   small-raw = omega (arith, small 4, small 5, small 6, small 7)
 
-  all : (id : ℕ) → writePayload id (le32 payload 4 % 2 ^ 32) ≡ usedPayload payload id UInt32
+  all : (id : ℕ) → encodeParameterWrite id (le32 payload 4 % 2 ^ 32) ≡ usedPayload payload id UInt32
   all id =
       rw (mod-eq-of-lt small-raw)
       (four
@@ -141,7 +141,7 @@ module _ (payload : List ℕ) (small : (i : ℕ) → getD payload i 0 < 256) whe
       (omega (arith, small 4, small 5, small 6))
       (omega (arith, small 4, small 5, small 6)))
 
-  used : (id : ℕ) (kind : ParameterDataType) → writePayload id (le32 payload 4 % 2 ^ (8 * widthOf kind)) ≡ usedPayload payload id kind
+  used : (id : ℕ) (kind : ParameterDataType) → encodeParameterWrite id (le32 payload 4 % 2 ^ (8 * widthOf kind)) ≡ usedPayload payload id kind
   used id Int8 = four (omega (arith, small 4)) (omega (arith, small 4)) (omega (arith, small 4)) (omega (arith, small 4))
   used id UInt8 = four (omega (arith, small 4)) (omega (arith, small 4)) (omega (arith, small 4)) (omega (arith, small 4))
   used id UInt16 =
@@ -152,14 +152,14 @@ module _ (payload : List ℕ) (small : (i : ℕ) → getD payload i 0 < 256) whe
 -- a held reading of a listed parameter is encoded, and its write carries the bytes of its payload that its kind uses, then zeros
 pub record WrittenOut (id : ℕ) (v : ParameterValue) (kind : ParameterDataType) (payload : List ℕ) : Type 0 where
   pub raw : ℕ
-  pub encodes-as : encodedValue id v ≡ encoded.Raw raw
-  pub carries : writePayload id raw ≡ usedPayload payload id kind
+  pub encodes-as : encodeParameterValue id v ≡ encoded.Raw raw
+  pub carries : encodeParameterWrite id raw ≡ usedPayload payload id kind
 
 pub written-out : (m : Lone) (f : CanFrame) (now : ℕ)
     → isRead f ≡ true
     → hears m f now .said ≡ checked.Passed
     → ((i : ℕ) → getD (f .data) i 0 < 256)
-    → (kind : ParameterDataType) → infoOf (readId f) ≡ info.Listed kind
+    → (kind : ParameterDataType) → parameterInfo (readId f) ≡ info.Listed kind
     → (r : Stored) → lookup (readId f) (hears m f now .lone .readings) ≡ Held r
     → WrittenOut (readId f) (r .value) kind (f .data)
 unfolding readStored

@@ -17,9 +17,9 @@ use Rattle.motor.specs.declared.readings.PutAnswer.the-variants.{Kept, F
 use Rattle.motor.specs.declared.readings.PutResult.{PutResult}
 use Rattle.motor.specs.declared.edits.PutEdit.{PutEdit}
 use Rattle.motor.specs.Limits.{mostReadings}
-use Rattle.motor.specs.Readings.{freeRecord, reading, entryAt, storedAt, withNext, linkedAt, replacedAt, kept, fullOf, addAt, putAt, putOf, placeOf, holderOf}
-use Rattle.motor.specs.Receive.{accepts, late, isRead, readStatus, readId, readStored, heardWith, heardOf}
-use Rattle.motor.specs.Edits.{edited, noEdit, linkEdit, replaceEdit, keptEdit, fullEdit, addEdit, putEditAt, putEdit, readHeard}
+use Rattle.motor.specs.Readings.{freeRecord, reading, entryAt, storedAt, withNext, linkedAt, replacedAt, kept, fullOf, addAt, putAt, putOf, seekOf, holderOf}
+use Rattle.motor.specs.Receive.{acceptsFrame, isLate, isRead, readStatus, readId, readStored, heardWith, processFeedbackFrame}
+use Rattle.motor.specs.Edits.{editedBy, noEdit, linkEdit, replaceEdit, keptEdit, fullEdit, addEdit, putEditAt, putEdit, hearRead}
 use Rattle.motor.proofs.Receiving.{heard-13, heard-7, heard-14, heard-15, heard-value}
 
 -- a record stored goes on to where it goes
@@ -32,21 +32,21 @@ stored-again : (rs : Readings) (n : ℕ) (x : Reading) (free : ℕ) → withNext
 stored-again rs n x free = ap (λ (l : List Reading). record { records = l; free = free }) (set-again (rs .records) n x)
 
 -- no edit changes nothing, whatever the readings
-pub no-edit : (rs : Readings) → edited rs (noEdit rs) ≡ rs
-unfolding edited
+pub no-edit : (rs : Readings) → editedBy rs (noEdit rs) ≡ rs
+unfolding editedBy
 no-edit rs = stored-again rs 0 _ (rs .free) ∙ ap (λ (l : List Reading). record { records = l; free = rs .free }) (set-getD (rs .records) 0 (freeRecord 0))
 
 -- what a put answers, and the readings once its edit is stored
 abbrev pub putWith : Readings → PutEdit → PutResult
-putWith rs p = record { said = p .said; readings = edited rs (p .edit) }
+putWith rs p = record { said = p .said; readings = editedBy rs (p .edit) }
 
 -- a put's answer, and its edit stored, are those of the by-value put
 pub edit-puts : (rs : Readings) (id : ℕ) (s : Stored) → putWith rs (putEdit rs id s) ≡ putOf rs id s
-unfolding putEditAt putAt addEdit addAt edited
+unfolding putEditAt putAt addEdit addAt editedBy
 edit-puts rs id s = go (eqb (holderOf rs id) 0) (eqb (rs .free) 0) (ltb mostReadings (rs .free))
   where
     q : ℕ
-    q = placeOf rs id
+    q = seekOf rs id
 
     n : ℕ
     n = holderOf rs id
@@ -64,9 +64,9 @@ edit-puts rs id s = go (eqb (holderOf rs id) 0) (eqb (rs .free) 0) (ltb mostRead
 
 -- a read reply: its edit stored, the readings are those of the by-value call
 pub heard-read : (m : Motor) (f : CanFrame) (now : ℕ) → isRead f ≡ true
-    → heardOf m f now ≡ heardWith (readHeard m f now .state) (edited (m .readings) (readHeard m f now .edit)) (readHeard m f now .said)
-unfolding readHeard
-heard-read m f now r = go (accepts (m .state .«motor_id») f) (late (m .state .clock) now) (eqb (readStatus f) 0) (put .said) refl refl refl refl
+    → processFeedbackFrame m f now ≡ heardWith (hearRead m f now .state) (editedBy (m .readings) (hearRead m f now .edit)) (hearRead m f now .said)
+unfolding hearRead
+heard-read m f now r = go (acceptsFrame (m .state .«motor_id») f) (isLate (m .state .clock) now) (eqb (readStatus f) 0) (put .said) refl refl refl refl
   where
     put : PutEdit
     put = putEdit (m .readings) (readId f) (readStored f)
@@ -74,8 +74,8 @@ heard-read m f now r = go (accepts (m .state .«motor_id») f) (late (m .state .
     puts : putWith (m .readings) put ≡ putOf (m .readings) (readId f) (readStored f)
     puts = edit-puts (m .readings) (readId f) (readStored f)
 
-    go : (a l z : Bool) (k : PutAnswer) → accepts (m .state .«motor_id») f ≡ a → late (m .state .clock) now ≡ l → eqb (readStatus f) 0 ≡ z → put .said ≡ k
-        → heardOf m f now ≡ heardWith (readHeard m f now .state) (edited (m .readings) (readHeard m f now .edit)) (readHeard m f now .said)
+    go : (a l z : Bool) (k : PutAnswer) → acceptsFrame (m .state .«motor_id») f ≡ a → isLate (m .state .clock) now ≡ l → eqb (readStatus f) 0 ≡ z → put .said ≡ k
+        → processFeedbackFrame m f now ≡ heardWith (hearRead m f now .state) (editedBy (m .readings) (hearRead m f now .edit)) (hearRead m f now .said)
     go false l z k p q s e = rw (heard-13 m f now p, p, no-edit)
     go true true z k p q s e = rw (heard-7 m f now p q, p, q, no-edit)
     go true false false k p q s e = rw (heard-14 m f now p q r (eqb-false _ _ s), p, q, s, no-edit)

@@ -10,7 +10,7 @@ use borrow.Author.Tests.{lt-ltb, eq-eqb, ne-eqb, ltb-true, ltb-false, eqb-false}
 use Rattle.motor.specs.declared.engine.reading.Stored.{Stored}
 use Rattle.motor.specs.declared.readings.Entry.{Entry}
 use Rattle.motor.specs.declared.engine.reading.Found.the-variants.{Nothing, Held}
-use Rattle.motor.specs.Readings.{entry, holds, lookup, insert, remove, Above, Rising, Numbered, entries, recordOf, placeIn, takeOut, noEntry}
+use Rattle.motor.specs.Readings.{entry, holds, lookup, insert, remove, Above, Rising, Numbered, entries, recordOf, placedIn, takeOut, noEntry}
 
 pub never : {A : Type 0} → true ≡ false → A
 never e = let z : _≡_ {A = ℕ} 0 1 = cc in absurd (omega arith)
@@ -110,12 +110,12 @@ record-none id (x ∷ xs) h = go (eqb (x .1 .id) id) (record-none id xs) h
 
 -- ---- the lists with numbers, seen without them
 
-pub entries-placed : (n id : ℕ) (s : Stored) (l : List Numbered) → entries (placeIn n id s l) ≡ insert id s (entries l)
+pub entries-placed : (n id : ℕ) (s : Stored) (l : List Numbered) → entries (placedIn n id s l) ≡ insert id s (entries l)
 entries-placed n id s [] = refl
 entries-placed n id s (h ∷ hs) = go (ltb (h .1 .id) id) (eqb (h .1 .id) id) (entries-placed n id s hs)
   where
-    go : (b c : Bool) → entries (placeIn n id s hs) ≡ insert id s (entries hs)
-        → entries (cond b (h ∷ placeIn n id s hs) (cond c ((h .0, entry id s) ∷ hs) ((n, entry id s) ∷ h ∷ hs)))
+    go : (b c : Bool) → entries (placedIn n id s hs) ≡ insert id s (entries hs)
+        → entries (cond b (h ∷ placedIn n id s hs) (cond c ((h .0, entry id s) ∷ hs) ((n, entry id s) ∷ h ∷ hs)))
         ≡ cond b (h .1 ∷ insert id s (entries hs)) (entry id s ∷ cond c (entries hs) (h .1 ∷ entries hs))
     go true c i = rw i
     go false true i = refl
@@ -130,12 +130,12 @@ entries-taken id (h ∷ hs) = go (eqb (h .1 .id) id) (entries-taken id hs)
     go false i = rw i
 
 -- a new id stands in the record that it was given
-pub record-placed : (n id : ℕ) (s : Stored) (l : List Numbered) → holds id (entries l) ≡ false → recordOf id (placeIn n id s l) ≡ n
+pub record-placed : (n id : ℕ) (s : Stored) (l : List Numbered) → holds id (entries l) ≡ false → recordOf id (placedIn n id s l) ≡ n
 record-placed n id s [] h = rw (eq-eqb id id refl)
 record-placed n id s (x ∷ xs) h = go (ltb (x .1 .id) id) (eqb (x .1 .id) id) refl (record-placed n id s xs) h
   where
-    go : (b c : Bool) → eqb (x .1 .id) id ≡ c → (holds id (entries xs) ≡ false → recordOf id (placeIn n id s xs) ≡ n) → cond c true (holds id (entries xs)) ≡ false
-        → recordOf id (cond b (x ∷ placeIn n id s xs) (cond c ((x .0, entry id s) ∷ xs) ((n, entry id s) ∷ x ∷ xs))) ≡ n
+    go : (b c : Bool) → eqb (x .1 .id) id ≡ c → (holds id (entries xs) ≡ false → recordOf id (placedIn n id s xs) ≡ n) → cond c true (holds id (entries xs)) ≡ false
+        → recordOf id (cond b (x ∷ placedIn n id s xs) (cond c ((x .0, entry id s) ∷ xs) ((n, entry id s) ∷ x ∷ xs))) ≡ n
     go b true e f i = never i
     go true false e f i = rw e (f i)
     go false false e f i = rw (eq-eqb id id refl)
@@ -166,6 +166,6 @@ module _ (id : ℕ) where
   take-skip [] bs a = refl
   take-skip (h ∷ ps) bs a = rw (lower h (a .0), take-skip ps bs (a .1))
 
-  pub place-skip : (n : ℕ) (s : Stored) (ps bs : List Numbered) → Below id ps → placeIn n id s (ps ++ bs) ≡ ps ++ placeIn n id s bs
+  pub place-skip : (n : ℕ) (s : Stored) (ps bs : List Numbered) → Below id ps → placedIn n id s (ps ++ bs) ≡ ps ++ placedIn n id s bs
   place-skip n s [] bs a = refl
   place-skip n s (h ∷ ps) bs a = rw (lt-ltb (h .1 .id) id (a .0), place-skip n s ps bs (a .1))

@@ -28,7 +28,7 @@ use Rattle.motor.specs.declared.feedback.Latest.{Latest}
 use Rattle.motor.specs.declared.feedback.Latest.the-variants as latest
 use Rattle.motor.specs.declared.motor.State.{State}
 use Rattle.motor.specs.declared.motor.Motor.{Motor}
-use Rattle.motor.specs.Receive.{frameType, counted, feedbackIn, updated, feedbackAfter, told, stateAfter, heardOf}
+use Rattle.motor.specs.Receive.{frameType, countedAt, feedbackIn, update, feedbackAfter, toldBy, stateAfter, processFeedbackFrame}
 use Rattle.codec.proofs.Rounded.{U, rounded, rounded-mono, rounded-value}
 use Rattle.codec.proofs.Steps.{quotient}
 
@@ -182,18 +182,18 @@ FiniteIn (latest.State s) = Finite s
 -- feedback that is finite stays so, whatever the frame and its answer
 module _ (f : CanFrame) (now : ℕ) (h : Bytes (f .data)) where
   state-finite : (said : Checked) (s : State) → FiniteIn (s .feedback .latest) → FiniteIn (stateAfter said s f now .feedback .latest)
-  unfolding stateAfter told counted feedbackAfter
+  unfolding stateAfter toldBy countedAt feedbackAfter
   state-finite Passed s k = go (eqb (frameType f) 2 || eqb (frameType f) 24)
     where
-      go : (b : Bool) → FiniteIn (cond b (updated (s .feedback) (feedbackIn (s .model) f)) (s .feedback) .latest)
+      go : (b : Bool) → FiniteIn (cond b (update (s .feedback) (feedbackIn (s .model) f)) (s .feedback) .latest)
       go true = told-finite (s .model) f h
       go false = k
   state-finite (Refused r) s k = go (among (numberOf r) (14 ∷ 15 ∷ []))
     where
-      go : (b : Bool) → FiniteIn (cond b (counted s now) s .feedback .latest)
+      go : (b : Bool) → FiniteIn (cond b (countedAt s now) s .feedback .latest)
       go true = k
       go false = k
 
-  pub feedback-finite : (m : Motor) → FiniteIn (m .state .feedback .latest) → FiniteIn (heardOf m f now .motor .state .feedback .latest)
-  unfolding heardOf
-  feedback-finite m = state-finite (heardOf m f now .said) (m .state)
+  pub feedback-finite : (m : Motor) → FiniteIn (m .state .feedback .latest) → FiniteIn (processFeedbackFrame m f now .motor .state .feedback .latest)
+  unfolding processFeedbackFrame
+  feedback-finite m = state-finite (processFeedbackFrame m f now .said) (m .state)

@@ -31,8 +31,8 @@ use Rattle.motor.specs.declared.engine.node.Wait.{Wait}
 use Rattle.motor.specs.declared.engine.node.Wait.the-variants as wait
 use Rattle.motor.specs.Limits.{mostDueSteps, mostFrames}
 use Rattle.motor.specs.Bounds.{limitOf}
-use Rattle.motor.specs.engine.Operations.{begins, okOf, lostOf, gotOf, lostGot, pingedOf, goneOf}
-use Rattle.motor.specs.engine.Script.{signedIn, floatIn, asFlag, asSigned, asFloat, modeOr17, modeIn, stopIn, absOf, usable, limit, tryIn, firstRead, backRead, isMode, ensureOk, ensureLost}
+use Rattle.motor.specs.engine.Operations.{beginsWith, ackedOf, notAcked, gotValue, noValue, gotPing, windowsGone}
+use Rattle.motor.specs.engine.Script.{signedIn, floatIn, asFlag, asSigned, asFloat, modeOr17, modeIn, stopIn, absOf, isUsable, limit, tryIn, firstRead, backRead, isMode, ensureAcked, ensureLost}
 use Rattle.motor.proofs.Measures.{by-test, Paced, window-small, four, tries, ackedLeft, gotLeft, pingedLeft, waitLeft, nodeLeft, Fits}
 
 module _ (f d : ℕ) where
@@ -40,7 +40,7 @@ module _ (f d : ℕ) where
 
   -- a limit is written, or what follows comes at once
   limit-fits : (m id : ℕ) (w : ℕ) (k : Acked) (n : Node) → four f d + ackedLeft f d k ≤ m → Fits f d m n → Fits f d m (limit id w k n)
-  limit-fits m id w k n h g = by-test (λ t x. Fits f d m x) (usable (absOf w)) (λ e. (h, tt)) (λ e. g)
+  limit-fits m id w k n h g = by-test (λ t x. Fits f d m x) (isUsable (absOf w)) (λ e. (h, tt)) (λ e. g)
 
   -- one attempt of those left, or 18
   try-fits : (left : ℕ) (a : Aim) → Fits f d (tries f d left) (tryIn left a)
@@ -48,13 +48,13 @@ module _ (f d : ℕ) where
   try-fits (suc left) a = (omega arith, tt)
 
   -- ensure_control_mode, acknowledged or after a pause
-  ensure-fits : (stage : Ensure) (a : Aim) → Fits f d (ackedLeft f d (acked.Ensure stage a)) (ensureOk stage a)
+  ensure-fits : (stage : Ensure) (a : Aim) → Fits f d (ackedLeft f d (acked.Ensure stage a)) (ensureAcked stage a)
   ensure-fits ensure.Off a = (omega arith, (omega arith, omega arith))
   ensure-fits ensure.Try a = try-fits (a .left) a
   ensure-fits ensure.Written a = (omega arith, (omega arith, omega arith))
   ensure-fits ensure.Back a = (omega arith, window-small (a .timeout) 150 (omega arith))
 
-  pub ok-fits : (k : Acked) → Fits f d (ackedLeft f d k) (okOf k)
+  pub ok-fits : (k : Acked) → Fits f d (ackedLeft f d k) (ackedOf k)
   ok-fits acked.Done = (omega arith, tt)
   ok-fits acked.FaultCleared = (omega arith, tt)
   ok-fits acked.ZeroState = (omega arith, tt)
@@ -78,7 +78,7 @@ module _ (f d : ℕ) where
   ensure-lost-fits ensure.Written a = (omega arith, (omega arith, omega arith))
   ensure-lost-fits ensure.Back a = (omega arith, tt)
 
-  lost-fits : (k : Acked) → Fits f d (ackedLeft f d k) (lostOf k)
+  lost-fits : (k : Acked) → Fits f d (ackedLeft f d k) (notAcked k)
   lost-fits acked.Done = (omega arith, tt)
   lost-fits acked.FaultCleared = (omega arith, tt)
   lost-fits acked.ZeroState = (omega arith, tt)
@@ -91,7 +91,7 @@ module _ (f d : ℕ) where
   lost-fits (acked.Target p) = (omega arith, tt)
   lost-fits (acked.Ensure stage a) = ensure-lost-fits stage a
 
-  lost-got-fits : (k : Got) → Fits f d (gotLeft f d k) (lostGot k)
+  lost-got-fits : (k : Got) → Fits f d (gotLeft f d k) (noValue k)
   lost-got-fits got.Value = (omega arith, tt)
   lost-got-fits got.Flag = (omega arith, tt)
   lost-got-fits got.F32 = (omega arith, tt)
@@ -103,7 +103,7 @@ module _ (f d : ℕ) where
   lost-got-fits (got.EnsureFirst a) = (omega arith, omega arith)
   lost-got-fits (got.EnsureBack a) = (omega arith, (omega arith, omega arith))
 
-  pub gone-fits : (w : Wait) → Fits f d (waitLeft f d w) (goneOf w)
+  pub gone-fits : (w : Wait) → Fits f d (waitLeft f d w) (windowsGone w)
   gone-fits (wait.Acknowledged by r k) = lost-fits k
   gone-fits (wait.Value id k) = lost-got-fits k
   gone-fits (wait.Ping k) = (omega arith, tt)
@@ -149,7 +149,7 @@ module _ (f d : ℕ) where
       (λ e. (omega arith, (omega arith, omega arith)))
   back-fits a signed.Another = (omega arith, (omega arith, omega arith))
 
-  pub got-fits : (s : Sight) (k : Got) (v : ParameterValue) → Fits f d (gotLeft f d k) (gotOf s k v)
+  pub got-fits : (s : Sight) (k : Got) (v : ParameterValue) → Fits f d (gotLeft f d k) (gotValue s k v)
   got-fits s got.Value v = (omega arith, tt)
   got-fits s got.Flag v = flag-fits v
   got-fits s got.F32 v = float-fits 0 (floatIn v) _ (λ w. (omega arith, tt))
@@ -161,7 +161,7 @@ module _ (f d : ℕ) where
   got-fits s (got.EnsureFirst a) v = first-fits a (signedIn v)
   got-fits s (got.EnsureBack a) v = back-fits a (signedIn v)
 
-  pub pinged-fits : (k : Pinged) → Fits f d (pingedLeft f d k) (pingedOf k)
+  pub pinged-fits : (k : Pinged) → Fits f d (pingedLeft f d k) (gotPing k)
   pinged-fits pinged.Report = (omega arith, tt)
   pinged-fits (pinged.Rename new) = (omega arith, tt)
 
@@ -171,7 +171,7 @@ module _ (f d : ℕ) where
 abbrev Begins : ℕ → Node → Type 0
 Begins m n = (nodeLeft 1 0 n ≤ m) × (m ≤ mostFrames) × (nodeLeft 0 1 n ≤ mostDueSteps) × Paced n
 
-pub begin-fits : (c : Command) → Begins (limitOf c) (begins c)
+pub begin-fits : (c : Command) → Begins (limitOf c) (beginsWith c)
 begin-fits (command.Ping timeout) = (omega arith, omega arith, omega arith, window-small timeout 120 (omega arith))
 begin-fits (command.PingWithHostId host timeout) = (omega arith, omega arith, omega arith, window-small timeout 0 (omega arith))
 begin-fits (command.SetMode m) = (omega arith, omega arith, omega arith, tt)

@@ -17,10 +17,10 @@ use Rattle.codec.specs.declared.registers.ControlMode.{ControlMode}
 use Rattle.codec.specs.declared.registers.ControlMode.the-variants as mode
 use Rattle.codec.specs.declared.registers.ModeRead.the-variants as read
 use Rattle.codec.specs.declared.word.Word.{Word}
-use Rattle.codec.specs.Kinds.{among, listedIds, int8Ids, uint8Ids, uint16Ids, uint32Ids, kindOf, infoOf}
-use Rattle.codec.specs.Modes.{modeRead}
+use Rattle.codec.specs.Kinds.{among, listedIds, int8Ids, uint8Ids, uint16Ids, uint32Ids, kindOf, parameterInfo}
+use Rattle.codec.specs.Modes.{controlModeFromRaw}
 use Rattle.codec.specs.Refusals.{numberOf}
-use Rattle.codec.specs.Values.{encodedValue}
+use Rattle.codec.specs.Values.{encodeParameterValue}
 use Rattle.motor.specs.declared.engine.command.Command.{Command}
 use Rattle.motor.specs.declared.engine.command.Command.the-variants as command
 use Rattle.motor.specs.declared.engine.operation.Sight.{Sight}
@@ -42,8 +42,8 @@ use Rattle.motor.specs.declared.engine.node.Pinged.the-variants as pinge
 use Rattle.motor.specs.declared.engine.node.Wait.{Wait}
 use Rattle.motor.specs.declared.engine.node.Wait.the-variants as wait
 use Rattle.motor.specs.Calls.{arguedOf, encodes}
-use Rattle.motor.specs.engine.Operations.{begins, okOf, lostOf, gotOf, lostGot, pingedOf, goneOf}
-use Rattle.motor.specs.engine.Script.{asMode, modeOr17, signedIn, floatIn, asFlag, asSigned, asFloat, stopIn, usable, absOf, isMode, firstRead, backRead, tryIn, ensureOk}
+use Rattle.motor.specs.engine.Operations.{beginsWith, ackedOf, notAcked, gotValue, noValue, gotPing, windowsGone}
+use Rattle.motor.specs.engine.Script.{asMode, modeOr17, signedIn, floatIn, asFlag, asSigned, asFloat, stopIn, isUsable, absOf, isMode, firstRead, backRead, tryIn, ensureAcked}
 
 -- the numbers by which an operation may fail
 abbrev pub endsBy : Refusal → Bool
@@ -57,7 +57,7 @@ Good node.ClearFault = Unit {0}
 Good (node.Fail r) = endsBy r ≡ true
 Good (node.Pause d k) = Unit {0}
 Good (node.Last r) = Unit {0}
-Good (node.Write id v k) = encodes (encodedValue id v) ≡ checked.Passed
+Good (node.Write id v k) = encodes (encodeParameterValue id v) ≡ checked.Passed
 Good (node.Await w window whom) = Unit {0}
 Good (node.Motion p v kp kd t r) = Unit {0}
 Good (node.Rename new) = Unit {0}
@@ -68,8 +68,8 @@ either-good false x y p q = q
 
 -- ---- every node of an operation is good
 
-mode-good : (n : ℤ) (k : ControlMode → Node) → ((m : ControlMode) → Good (k m)) → Good (modeOr17 (modeRead n) k)
-unfolding modeRead among
+mode-good : (n : ℤ) (k : ControlMode → Node) → ((m : ControlMode) → Good (k m)) → Good (modeOr17 (controlModeFromRaw n) k)
+unfolding controlModeFromRaw among
 mode-good n k g = go (eqb (ofZ w8 n) 0) (eqb (ofZ w8 n) 1) (eqb (ofZ w8 n) 2) (eqb (ofZ w8 n) 5)
   where
     go : (a b c d : Bool) → Good (modeOr17 (cond a (read.Mode mode.Mit) (cond b (read.Mode mode.Position) (cond c (read.Mode mode.Velocity) (cond d (read.Mode mode.PositionCsp) (read.Refused refusal.UnsupportedRunMode))))) k)
@@ -85,39 +85,39 @@ as-mode-good (signed.Signed n) k g = mode-good n k g
 as-mode-good signed.Another k g = refl
 
 stop-good : (timeout : ℕ) (m : ControlMode) → Good (stopIn timeout m)
-unfolding infoOf kindOf among listedIds int8Ids uint8Ids uint16Ids uint32Ids
+unfolding parameterInfo kindOf among listedIds int8Ids uint8Ids uint16Ids uint32Ids
 stop-good timeout mode.Mit = tt
 stop-good timeout mode.Position = refl
 stop-good timeout mode.Velocity = refl
 stop-good timeout mode.PositionCsp = tt
 
 try-good : (left : ℕ) (a : Aim) → Good (tryIn left a)
-unfolding infoOf kindOf among listedIds int8Ids
+unfolding parameterInfo kindOf among listedIds int8Ids
 try-good zero a = refl
 try-good (suc left) a = refl
 
-ensure-good : (stage : Ensure) (a : Aim) → Good (ensureOk stage a)
+ensure-good : (stage : Ensure) (a : Aim) → Good (ensureAcked stage a)
 ensure-good ensure.Off a = tt
 ensure-good ensure.Try a = try-good (a .left) a
 ensure-good ensure.Written a = tt
 ensure-good ensure.Back a = tt
 
-pub ok-good : (k : Acked) → Good (okOf k)
-unfolding infoOf kindOf among listedIds int8Ids uint8Ids uint16Ids uint32Ids
+pub ok-good : (k : Acked) → Good (ackedOf k)
+unfolding parameterInfo kindOf among listedIds int8Ids uint8Ids uint16Ids uint32Ids
 ok-good acked.Done = tt
 ok-good acked.FaultCleared = tt
 ok-good acked.ZeroState = refl
 ok-good (acked.Stopped m) = tt
 ok-good (acked.CspEnable position most) = tt
-ok-good (acked.CspLimit position most) = either-good (usable (absOf most)) _ _ refl refl
+ok-good (acked.CspLimit position most) = either-good (isUsable (absOf most)) _ _ refl refl
 ok-good (acked.PpEnable position most acceleration) = tt
 ok-good (acked.PpVelocity position most acceleration) =
-    either-good (usable (absOf most)) _ _ refl (either-good (usable (absOf acceleration)) _ _ refl refl)
-ok-good (acked.PpAcceleration position acceleration) = either-good (usable (absOf acceleration)) _ _ refl refl
+    either-good (isUsable (absOf most)) _ _ refl (either-good (isUsable (absOf acceleration)) _ _ refl refl)
+ok-good (acked.PpAcceleration position acceleration) = either-good (isUsable (absOf acceleration)) _ _ refl refl
 ok-good (acked.Target position) = refl
 ok-good (acked.Ensure stage a) = ensure-good stage a
 
-lost-good : (k : Acked) → Good (lostOf k)
+lost-good : (k : Acked) → Good (notAcked k)
 unfolding among
 lost-good acked.Done = refl
 lost-good acked.FaultCleared = refl
@@ -160,8 +160,8 @@ unfolding among
 signed-good (signed.Signed v) k g = g v
 signed-good signed.Another k g = refl
 
-pub got-good : (s : Sight) (k : Got) (v : ParameterValue) → Good (gotOf s k v)
-unfolding infoOf kindOf among listedIds int8Ids uint8Ids uint16Ids uint32Ids
+pub got-good : (s : Sight) (k : Got) (v : ParameterValue) → Good (gotValue s k v)
+unfolding parameterInfo kindOf among listedIds int8Ids uint8Ids uint16Ids uint32Ids
 got-good s got.Value v = tt
 got-good s got.Flag v = flag-good v
 got-good s got.F32 v = float-good (floatIn v) _ (λ w. tt)
@@ -173,7 +173,7 @@ got-good s got.StopMit v = float-good (floatIn v) _ (λ w. tt)
 got-good s (got.EnsureFirst a) v = first-good a (signedIn v)
 got-good s (got.EnsureBack a) v = back-good a (signedIn v)
 
-lost-got-good : (k : Got) → Good (lostGot k)
+lost-got-good : (k : Got) → Good (noValue k)
 unfolding among
 lost-got-good got.Value = refl
 lost-got-good got.Flag = refl
@@ -186,18 +186,18 @@ lost-got-good got.StopMit = refl
 lost-got-good (got.EnsureFirst a) = tt
 lost-got-good (got.EnsureBack a) = tt
 
-pub pinged-good : (k : Pinged) → Good (pingedOf k)
+pub pinged-good : (k : Pinged) → Good (gotPing k)
 pinged-good pinged.Report = tt
 pinged-good (pinged.Rename new) = tt
 
-pub gone-good : (w : Wait) → Good (goneOf w)
+pub gone-good : (w : Wait) → Good (windowsGone w)
 unfolding among
 gone-good (wait.Acknowledged by r k) = lost-good k
 gone-good (wait.Value id k) = lost-got-good k
 gone-good (wait.Ping k) = refl
 
-pub begins-good : (c : Command) → arguedOf c ≡ checked.Passed → Good (begins c)
-unfolding infoOf kindOf among listedIds int8Ids uint8Ids uint16Ids uint32Ids
+pub begins-good : (c : Command) → arguedOf c ≡ checked.Passed → Good (beginsWith c)
+unfolding parameterInfo kindOf among listedIds int8Ids uint8Ids uint16Ids uint32Ids
 begins-good (command.Ping timeout) h = tt
 begins-good (command.PingWithHostId host timeout) h = tt
 begins-good (command.SetMode m) h = refl

@@ -19,20 +19,20 @@ use Rattle.motor.specs.declared.readings.Entry.{Entry}
 use Rattle.motor.specs.declared.engine.reading.Found.{Found}
 use Rattle.motor.specs.Calls.{sightOf, readingsBy, wanted, wantedBy, startSaid, stepSaid}
 use Rattle.motor.specs.Lone.{loneMoved, loneStartBy, loneStart, loneStepBy, loneStep, loneLook}
-use Rattle.motor.specs.Motors.{loneOf, movedOf, startBy, startOf, stepBy, stepOf, lookOf, AnsweredAs}
-use Rattle.motor.specs.Readings.{Holds, lookup, remove, findOf, dropOf}
-use Rattle.motor.specs.engine.Run.{advance, begin}
+use Rattle.motor.specs.Motors.{loneOf, movedBy, startBy, startOf, stepBy, stepOf, lookOf, AnsweredAs}
+use Rattle.motor.specs.Readings.{Holds, lookup, remove, findOf, dropId}
+use Rattle.motor.specs.engine.Run.{advanced, begunBy}
 use Rattle.motor.proofs.ReadingsHeld.{find-holds, drop-holds, listing-holds}
 
 module _ (m : Motor) (l : List Entry) (x : Holds (m .readings) l) where
-  readings-as : (e : Effect) → Holds (readingsBy e (λ id. dropOf (m .readings) id) (m .readings)) (readingsBy e (λ id. remove id l) l)
+  readings-as : (e : Effect) → Holds (readingsBy e (λ id. dropId (m .readings) id) (m .readings)) (readingsBy e (λ id. remove id l) l)
   readings-as effect.Nothing = x
   readings-as (effect.ForgetReading id) = drop-holds (m .readings) l x id
   readings-as effect.ForgetPing = x
   readings-as effect.ForgetFault = x
   readings-as (effect.HoldGains g) = x
 
-  moved-as : (now : ℕ) (c : Command) (v : Move) → AnsweredAs (movedOf m now c v) (loneMoved (loneOf m l) now c v)
+  moved-as : (now : ℕ) (c : Command) (v : Move) → AnsweredAs (movedBy m now c v) (loneMoved (loneOf m l) now c v)
   moved-as now c v = record { said = refl; frame = refl; result = refl; state = refl; readings = readings-as (v .effect) }
 
   wanted-by : (w : Wait) → wantedBy w (λ id. lookup id l) ≡ wantedBy w (λ id. findOf (m .readings) id)
@@ -46,7 +46,7 @@ module _ (m : Motor) (l : List Entry) (x : Holds (m .readings) l) where
   wanted-as (phase.Waiting w) = wanted-by w
 
   start-by : (k : Checked) (c : Command) (now : ℕ) → AnsweredAs (startBy k m c now) (loneStartBy k (loneOf m l) c now)
-  start-by checked.Passed c now = moved-as now c (begin (sightOf (m .state)) now c)
+  start-by checked.Passed c now = moved-as now c (begunBy (sightOf (m .state)) now c)
   start-by (checked.Refused r) c now = record { said = refl; frame = refl; result = refl; state = refl; readings = x }
 
   step-by : (k : Checked) (now : ℕ) → AnsweredAs (stepBy k m now) (loneStepBy k (loneOf m l) now)
@@ -54,9 +54,9 @@ module _ (m : Motor) (l : List Entry) (x : Holds (m .readings) l) where
       let s = m .state in
       let op = s .operation in
       subst
-      (λ (f : Found). AnsweredAs (stepBy checked.Passed m now) (loneMoved (loneOf m l) now (s .command) (advance (sightOf s) now op f (op .phase))))
+      (λ (f : Found). AnsweredAs (stepBy checked.Passed m now) (loneMoved (loneOf m l) now (s .command) (advanced (sightOf s) now op f (op .phase))))
       (sym (wanted-as (op .phase)))
-      (moved-as now (s .command) (advance (sightOf s) now op (wanted (op .phase) (λ id. findOf (m .readings) id)) (op .phase)))
+      (moved-as now (s .command) (advanced (sightOf s) now op (wanted (op .phase) (λ id. findOf (m .readings) id)) (op .phase)))
   step-by (checked.Refused r) now = record { said = refl; frame = refl; result = refl; state = refl; readings = x }
 
 -- a contract's second clause from its first

@@ -15,7 +15,7 @@ use Rattle.motor.specs.declared.readings.Readings.{Readings}
 use Rattle.motor.specs.declared.receive.Heard.{Heard}
 use Rattle.motor.specs.Numbers.{firstOf}
 use Rattle.motor.specs.Readings.{insert, room, Holds, putOf}
-use Rattle.motor.specs.Receive.{accepts, late, isRead, readStatus, readId, readStored, frameSaid, stateAfter, readingsAfter, isFull, heardOf}
+use Rattle.motor.specs.Receive.{acceptsFrame, isLate, isRead, readStatus, readId, readStored, frameSaid, stateAfter, readingsAfter, isFull, processFeedbackFrame}
 use Rattle.motor.specs.Lone.{hears}
 use Rattle.motor.specs.Motors.{loneOf, HeardAs}
 use Rattle.motor.proofs.ReadingsHeld.{put-holds, put-full}
@@ -23,7 +23,7 @@ use Rattle.motor.proofs.ReadingsHeld.{put-holds, put-full}
 -- with no room the readings stay, whatever is said
 full-leaves : {A : Type 0} (s : State) (f : CanFrame) (now : ℕ) (new old : A) → readingsAfter (frameSaid s f now true) f new old ≡ old
 unfolding frameSaid readingsAfter
-full-leaves s f now new old = go (accepts (s .«motor_id») f) (late (s .clock) now) (isRead f) (eqb (readStatus f) 0) refl
+full-leaves s f now new old = go (acceptsFrame (s .«motor_id») f) (isLate (s .clock) now) (isRead f) (eqb (readStatus f) 0) refl
   where
     go : (a l r z : Bool) → isRead f ≡ r
         → readingsAfter (firstOf ((not a, FrameNotAccepted) ∷ (l, TimeOutOfRange) ∷ (r && not z, ReadFailed (readId f) (readStatus f)) ∷ (r && true, ReadingsFull) ∷ [])) f new old ≡ old
@@ -61,8 +61,8 @@ module _ (m : Motor) (f : CanFrame) (now : ℕ) (l : List Entry) (x : Holds (m .
         full-leaves (m .state) f now (insert (readId f) (readStored f) l) l,
       ) x
 
-  pub heard-as : HeardAs (heardOf m f now) (hears (loneOf m l) f now)
-  unfolding heardOf hears
+  pub heard-as : HeardAs (processFeedbackFrame m f now) (hears (loneOf m l) f now)
+  unfolding processFeedbackFrame hears
   heard-as =
       let e = put-full-as (room (readId f) l) refl in
       record {
@@ -72,6 +72,6 @@ module _ (m : Motor) (f : CanFrame) (now : ℕ) (l : List Entry) (x : Holds (m .
       }
 
 -- a contract's second clause from its first
-pub heard-both : (m : Motor) (f : CanFrame) (now : ℕ) (r : Heard) → r ≡ heardOf m f now
-    → (r ≡ heardOf m f now) × ((l : List Entry) → Holds (m .readings) l → HeardAs r (hears (loneOf m l) f now))
+pub heard-both : (m : Motor) (f : CanFrame) (now : ℕ) (r : Heard) → r ≡ processFeedbackFrame m f now
+    → (r ≡ processFeedbackFrame m f now) × ((l : List Entry) → Holds (m .readings) l → HeardAs r (hears (loneOf m l) f now))
 heard-both m f now r e = (e, λ l x. subst (λ (h : Heard). HeardAs h (hears (loneOf m l) f now)) (sym e) (heard-as m f now l x))

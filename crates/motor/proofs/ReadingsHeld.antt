@@ -13,7 +13,7 @@ use Rattle.motor.specs.declared.readings.Readings.{Readings}
 use Rattle.motor.specs.declared.readings.Entry.{Entry}
 use Rattle.motor.specs.declared.readings.PutAnswer.the-variants.{Kept, Full}
 use Rattle.motor.specs.Limits.{mostReadings}
-use Rattle.motor.specs.Readings.{holds, lookup, insert, remove, room, Rising, Numbered, entries, Lists, atFirst, recordOf, placeIn, takeOut, newIn, putIn, dropIn, noEntry, Rep, Holds, Puts, listing, emptyReadings, findOf, putOf, dropOf, listingOf}
+use Rattle.motor.specs.Readings.{holds, lookup, insert, remove, room, Rising, Numbered, entries, Lists, atFirst, recordOf, placedIn, takeOut, newIn, putIn, dropIn, noEntry, Rep, Holds, Puts, listing, emptyReadings, findOf, putOf, dropId, listedOf}
 use Rattle.motor.proofs.Entries.{remove-none, entries-placed, entries-taken}
 use Rattle.motor.proofs.Links.{all-entries}
 use Rattle.motor.proofs.ReadingsMeaning.{find-rep, put-rep, drop-rep, walk-rep}
@@ -38,7 +38,7 @@ pub entries-put : (rs : Readings) (ls : Lists) → Rep rs ls → (id : ℕ) (s :
     → entries (putIn id s ls .held) ≡ cond (room id (entries (ls .held))) (insert id s (entries (ls .held))) (entries (ls .held))
 entries-put rs ls x id s = go (holds id (entries (ls .held)))
   where
-    go : (b : Bool) → entries (cond b (record { held = placeIn 0 id s (ls .held); free = ls .free }) (newIn id s (ls .held) (ls .free)) .held)
+    go : (b : Bool) → entries (cond b (record { held = placedIn 0 id s (ls .held); free = ls .free }) (newIn id s (ls .held) (ls .free)) .held)
         ≡ cond (cond b true (ltb (length (entries (ls .held))) mostReadings)) (insert id s (entries (ls .held))) (entries (ls .held))
     go true = entries-placed 0 id s (ls .held)
     go false = new-entries id s (ls .held) (ls .free) (all-entries rs (ls .held) (ls .free) x)
@@ -73,7 +73,7 @@ module _ (rs : Readings) (l : List Entry) (x : Holds rs l) where
       let k : room id (entries (x .lists .held)) ≡ false = ap (room id) (x .same) ∙ h in
       (puts id s .said ∙ rw k, puts id s .full k)
 
-  pub drop-holds : (id : ℕ) → Holds (dropOf rs id) (remove id l)
+  pub drop-holds : (id : ℕ) → Holds (dropId rs id) (remove id l)
   drop-holds id =
       record {
         lists = dropIn id (x .lists);
@@ -81,7 +81,7 @@ module _ (rs : Readings) (l : List Entry) (x : Holds rs l) where
         same = entries-drop id (x .lists) ∙ ap (remove id) (x .same);
       }
 
-  pub listing-holds : listingOf rs ≡ listing l
+  pub listing-holds : listedOf rs ≡ listing l
   listing-holds = ap listing (walk-rep rs (x .lists) (x .rep) ∙ x .same)
 
 -- a listing loses nothing

@@ -13,7 +13,7 @@ use Rattle.motor.specs.declared.readings.Readings.{Readings}
 use Rattle.motor.specs.declared.readings.Entry.{Entry}
 use Rattle.motor.specs.declared.engine.reading.Found.the-variants.{Held}
 use Rattle.motor.specs.Limits.{mostReadings}
-use Rattle.motor.specs.Readings.{entry, holds, lookup, Rising, Numbered, entries, Lists, recordOf, placeIn, takeOut, dropIn, noStored, nextAt, Chain, Rep, Puts, placeOf, holderAt, holderOf, foundAt, findOf, addAt, putAt, putOf, dropAt, dropOf, walk}
+use Rattle.motor.specs.Readings.{entry, holds, lookup, Rising, Numbered, entries, Lists, recordOf, placedIn, takeOut, dropIn, blankStored, nextAt, Chain, Rep, Puts, seekOf, holderAt, holderOf, foundAt, findOf, addAt, putAt, putOf, dropAt, dropId, walk}
 use Rattle.motor.proofs.Entries.{never, holds-first, lookup-none, record-none, insert-rising, remove-rising, rising-back, entries-placed, entries-taken, holds-skip, lookup-skip, record-skip, take-skip, place-skip}
 use Rattle.motor.proofs.Search.{Stops, Split, seek-place, walk-chain}
 use Rattle.motor.proofs.Links.{lists, all-records, all-entries, linked, replaced, unlinked}
@@ -30,7 +30,7 @@ module _ (r : List Reading) (id q : ℕ) where
   holder-first b bs c =
       rw (c .0, ne-eqb (b .0) 0 (λ e. omega (arith, c .1)), le-ltb mostReadings (b .0) (c .2), ap (λ (e : Entry). e .id) (c .3))
 
-place-new : (n id : ℕ) (s : Stored) (bs : List Numbered) → Stops id bs → holds id (entries bs) ≡ false → placeIn n id s bs ≡ (n, entry id s) ∷ bs
+place-new : (n id : ℕ) (s : Stored) (bs : List Numbered) → Stops id bs → holds id (entries bs) ≡ false → placedIn n id s bs ≡ (n, entry id s) ∷ bs
 place-new n id s [] h e = refl
 place-new n id s (b ∷ bs) h e = rw (le-ltb (b .1 .id) id h) (go (eqb (b .1 .id) id) e)
   where
@@ -41,7 +41,7 @@ place-new n id s (b ∷ bs) h e = rw (le-ltb (b .1 .id) id h) (go (eqb (b .1 .id
 
 -- the place of id is after ps and before bs
 abbrev At : Readings → ℕ → List Numbered → List Numbered → Type 0
-At rs id ps bs = Split (rs .records) id 0 (placeOf rs id) ps bs
+At rs id ps bs = Split (rs .records) id 0 (seekOf rs id) ps bs
 
 module _ (rs : Readings) (held : List Numbered) (free : List ℕ) (x : Rep rs (lists held free)) (id : ℕ) where
   -- id is new, or record b holds it
@@ -56,8 +56,8 @@ module _ (rs : Readings) (held : List Numbered) (free : List ℕ) (x : Rep rs (l
       (go (p .front) (p .back) (subst (λ (t : List Numbered). Rep rs (lists t free)) (sym (p .whole)) x) (p .split))
     where
       go : (ps bs : List Numbered) → Rep rs (lists (ps ++ bs) free) → At rs id ps bs → P (ps ++ bs) (holderOf rs id)
-      go ps [] y s = rw (holder-end (rs .records) id (placeOf rs id) (s .rest)) (new ps [] y s refl)
-      go ps (b ∷ bs) y s = rw (holder-first (rs .records) id (placeOf rs id) b bs (s .rest)) (one (eqb (b .1 .id) id) refl)
+      go ps [] y s = rw (holder-end (rs .records) id (seekOf rs id) (s .rest)) (new ps [] y s refl)
+      go ps (b ∷ bs) y s = rw (holder-first (rs .records) id (seekOf rs id) b bs (s .rest)) (one (eqb (b .1 .id) id) refl)
         where
           one : (c : Bool) → eqb (b .1 .id) id ≡ c → P (ps ++ (b ∷ bs)) (cond c (b .0) 0)
           one true e = old ps b bs y s (eqb-true (b .1 .id) id e)
@@ -85,24 +85,24 @@ module _ (rs : Readings) (held : List Numbered) (free : List ℕ) (x : Rep rs (l
       (λ ps bs y s h. sym (record-none id (ps ++ bs) (holds-skip id ps bs (s .low) ∙ h)))
       (λ ps b bs y s e. sym (record-skip id ps (b ∷ bs) (s .low) ∙ rw (eq-eqb (b .1 .id) id e)))
 
-  pub drop-rep : Rep (dropOf rs id) (dropIn id (lists held free))
+  pub drop-rep : Rep (dropId rs id) (dropIn id (lists held free))
   unfolding dropAt
   drop-rep =
-      by-place (λ t n. Rep (dropAt rs (placeOf rs id) n) (dropIn id (lists t free)))
+      by-place (λ t n. Rep (dropAt rs (seekOf rs id) n) (dropIn id (lists t free)))
       (λ ps bs y s h. rw (holds-skip id ps bs (s .low) ∙ h) y)
       (λ ps b bs y s e.
       let w : takeOut id (ps ++ (b ∷ bs)) ≡ ps ++ bs = take-skip id ps (b ∷ bs) (s .low) ∙ rw (eq-eqb (b .1 .id) id e) in
       let n : recordOf id (ps ++ (b ∷ bs)) ≡ b .0 = record-skip id ps (b ∷ bs) (s .low) ∙ rw (eq-eqb (b .1 .id) id e) in
       rw (ne-eqb (b .0) 0 (λ z. omega (arith, s .rest .1, z)), holds-old ps b bs s e, n)
-      (unlinked rs id noStored (placeOf rs id) ps b bs free y s (takeOut id (ps ++ (b ∷ bs))) (sym w)
+      (unlinked rs id blankStored (seekOf rs id) ps b bs free y s (takeOut id (ps ++ (b ∷ bs))) (sym w)
       (rw (entries-taken id (ps ++ (b ∷ bs))) (remove-rising id (entries (ps ++ (b ∷ bs))) (y .rising)))))
 
   module _ (v : Stored) where
-    placed-rising : (n : ℕ) (t : List Numbered) → Rising (entries t) → Rising (entries (placeIn n id v t))
+    placed-rising : (n : ℕ) (t : List Numbered) → Rising (entries t) → Rising (entries (placedIn n id v t))
     placed-rising n t u = rw (entries-placed n id v t) (insert-rising id v (entries t) u)
 
     add-rep : (ps bs : List Numbered) (fs : List ℕ) → Rep rs (lists (ps ++ bs) fs) → At rs id ps bs → holds id (entries bs) ≡ false
-        → Puts rs (lists (ps ++ bs) fs) id v (addAt rs id v (placeOf rs id))
+        → Puts rs (lists (ps ++ bs) fs) id v (addAt rs id v (seekOf rs id))
     unfolding addAt
     add-rep ps bs [] y s h =
         let k = holds-skip id ps bs (s .low) ∙ h in
@@ -116,23 +116,23 @@ module _ (rs : Readings) (held : List Numbered) (free : List ℕ) (x : Rep rs (l
         rw (c .0, ne-eqb f 0 (λ z. omega (arith, c .1, z)), le-ltb mostReadings f (c .2))
         record {
           said = rw (k, m);
-          rep = rw k (linked rs id v (placeOf rs id) ps bs f fs y s (placeIn f id v (ps ++ bs)) (sym w) (placed-rising f (ps ++ bs) (y .rising)));
+          rep = rw k (linked rs id v (seekOf rs id) ps bs f fs y s (placedIn f id v (ps ++ bs)) (sym w) (placed-rising f (ps ++ bs) (y .rising)));
           full = λ z. never (rw (k, m) at z);
         }
 
     pub put-rep : Puts rs (lists held free) id v (putOf rs id v)
     unfolding putAt
     put-rep =
-        by-place (λ t n. Puts rs (lists t free) id v (putAt rs id v (placeOf rs id) n))
+        by-place (λ t n. Puts rs (lists t free) id v (putAt rs id v (seekOf rs id) n))
         (λ ps bs y s h. add-rep ps bs free y s h)
         (λ ps b bs y s e.
         let k = holds-old ps b bs s e in
-        let w : placeIn 0 id v (ps ++ (b ∷ bs)) ≡ ps ++ ((b .0, entry id v) ∷ bs) =
+        let w : placedIn 0 id v (ps ++ (b ∷ bs)) ≡ ps ++ ((b .0, entry id v) ∷ bs) =
         place-skip id 0 v ps (b ∷ bs) (s .low) ∙ rw (le-ltb (b .1 .id) id (s .high), eq-eqb (b .1 .id) id e) in
         rw (ne-eqb (b .0) 0 (λ z. omega (arith, s .rest .1, z)))
         record {
           said = rw k;
-          rep = rw k (replaced rs id v (placeOf rs id) ps b bs free y s (placeIn 0 id v (ps ++ (b ∷ bs))) (sym w) (placed-rising 0 (ps ++ (b ∷ bs)) (y .rising)));
+          rep = rw k (replaced rs id v (seekOf rs id) ps b bs free y s (placedIn 0 id v (ps ++ (b ∷ bs))) (sym w) (placed-rising 0 (ps ++ (b ∷ bs)) (y .rising)));
           full = λ z. never (rw k at z);
         })
 

@@ -8,7 +8,7 @@ use lib.ListN.{length, getD}
 use Rattle.motor.specs.declared.engine.reading.Stored.{Stored}
 use Rattle.motor.specs.declared.readings.Readings.{Readings}
 use Rattle.motor.specs.Limits.{mostReadings}
-use Rattle.motor.specs.Readings.{holds, numbers, entries, Lists, recordOf, takeOut, putIn, dropIn, noEntry, times, unused, Rep, holderOf, putOf, dropOf}
+use Rattle.motor.specs.Readings.{holds, numbers, entries, Lists, recordOf, takeOut, putIn, dropIn, noEntry, times, unused, Rep, holderOf, putOf, dropId}
 use Rattle.motor.proofs.Times.{in-range, times-append}
 use Rattle.motor.proofs.Entries.{rising-at, record-placed}
 use Rattle.motor.proofs.Chains.{same-head}
@@ -45,12 +45,12 @@ module _ (ls : Lists) (id id′ : ℕ) (s : Stored) (held : holds id (entries (l
 
   -- the same of the records: the search finds id′ where it found id, and the free chain begins as before
   pub last-freed-first-record : (rs : Readings) → Rep rs ls
-      → (holderOf (putOf (dropOf rs id) id′ s .readings) id′ ≡ holderOf rs id) × (putOf (dropOf rs id) id′ s .readings .free ≡ rs .free)
+      → (holderOf (putOf (dropId rs id) id′ s .readings) id′ ≡ holderOf rs id) × (putOf (dropId rs id) id′ s .readings .free ≡ rs .free)
   last-freed-first-record rs x =
       let d = dropIn id ls in
       let p = putIn id′ s d in
-      let y = put-rep (dropOf rs id) (d .held) (d .free) (drop-rep rs (ls .held) (ls .free) x id) id′ s .rep in
-      let rs′ = putOf (dropOf rs id) id′ s .readings in (
+      let y = put-rep (dropId rs id) (d .held) (d .free) (drop-rep rs (ls .held) (ls .free) x id) id′ s .rep in
+      let rs′ = putOf (dropId rs id) id′ s .readings in (
         record-rep rs′ (p .held) (p .free) y id′ ∙ last-freed-first .0 ∙ sym (record-rep rs (ls .held) (ls .free) x id),
         same-head (rs′ .records) (rs .records) (rs′ .free) (rs .free) (map unused (ls .free))
             (rw (last-freed-first .1) at (y .free-chain)) (x .free-chain),

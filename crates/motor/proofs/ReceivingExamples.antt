@@ -7,14 +7,14 @@ use Rattle.codec.specs.declared.bus.CanFrame.{CanFrame}
 use Rattle.codec.specs.declared.error.Checked.the-variants.{Passed}
 use Rattle.codec.specs.declared.model.Model.the-variants.{Rs00}
 use Rattle.codec.specs.Kinds.{among}
-use Rattle.codec.specs.Replies.{zeros, isVersion}
+use Rattle.codec.specs.Replies.{zeros, isVersionReply}
 use Rattle.motor.specs.declared.engine.command.Command.{Command}
 use Rattle.motor.specs.declared.engine.operation.Operation.{Operation}
 use Rattle.motor.specs.declared.feedback.Latest.the-variants as latest
 use Rattle.motor.specs.declared.motor.HeldFault.the-variants as fault
 use Rattle.motor.specs.declared.motor.Motor.{Motor}
 use Rattle.motor.specs.declared.readings.Readings.{Readings}
-use Rattle.motor.specs.Receive.{accepts, late, counted, pingAfter, feedbackIn, nextSequence, feedbackAfter, faultAfter, told, isRead, frameSaid, stateAfter, readingsAfter, heardOf}
+use Rattle.motor.specs.Receive.{acceptsFrame, isLate, countedAt, pingAfter, feedbackIn, nextSequence, feedbackAfter, faultAfter, toldBy, isRead, frameSaid, stateAfter, readingsAfter, processFeedbackFrame}
 
 abbrev frame : ℕ → List ℕ → CanFrame
 frame id payload = record { «arbitration_id» = id; «data» = payload; dlc = 8; «is_extended» = true; «is_rx» = true }
@@ -43,23 +43,23 @@ module _ (operation : Operation) (command : Command) (readings : Readings) where
       }
 
   -- response 25 is counted, and nothing more
-  pub response-25 : heardOf (motor 7 3) (frame 0x190001FD zeros) 100 ≡ record { motor = motor 8 3; said = Passed }
-  unfolding heardOf frameSaid stateAfter readingsAfter accepts late among counted told pingAfter feedbackAfter faultAfter isRead
+  pub response-25 : processFeedbackFrame (motor 7 3) (frame 0x190001FD zeros) 100 ≡ record { motor = motor 8 3; said = Passed }
+  unfolding processFeedbackFrame frameSaid stateAfter readingsAfter acceptsFrame isLate among countedAt toldBy pingAfter feedbackAfter faultAfter isRead
   response-25 = refl
 
-  pub count-wraps : heardOf (motor (2 ^ 64 - 1) 3) (frame 0x190001FD zeros) 100 ≡ record { motor = motor 0 3; said = Passed }
-  unfolding heardOf frameSaid stateAfter readingsAfter accepts late among counted told pingAfter feedbackAfter faultAfter isRead
+  pub count-wraps : processFeedbackFrame (motor (2 ^ 64 - 1) 3) (frame 0x190001FD zeros) 100 ≡ record { motor = motor 0 3; said = Passed }
+  unfolding processFeedbackFrame frameSaid stateAfter readingsAfter acceptsFrame isLate among countedAt toldBy pingAfter feedbackAfter faultAfter isRead
   count-wraps = refl
 
-  pub sequence-stays : heardOf (motor 7 (2 ^ 64 - 1)) (frame 0x028001FD zeros) 100 .motor .state .feedback .sequence ≡ 2 ^ 64 - 1
-  unfolding heardOf frameSaid stateAfter accepts late among counted told feedbackAfter nextSequence isRead
+  pub sequence-stays : processFeedbackFrame (motor 7 (2 ^ 64 - 1)) (frame 0x028001FD zeros) 100 .motor .state .feedback .sequence ≡ 2 ^ 64 - 1
+  unfolding processFeedbackFrame frameSaid stateAfter acceptsFrame isLate among countedAt toldBy feedbackAfter nextSequence isRead
   sequence-stays = refl
 
   -- a version reply is feedback like any other
   abbrev version : CanFrame
   version = frame 0x020001FD (0x00 ∷ 0xC4 ∷ 0x56 ∷ 1 ∷ 2 ∷ 3 ∷ 4 ∷ 0 ∷ [])
 
-  pub version-is-feedback : (isVersion 0x020001FD (version .data) ≡ true)
-      × (heardOf (motor 7 3) version 100 .motor .state .feedback ≡ record { latest = latest.State (feedbackIn Rs00 version); sequence = 4 })
-  unfolding heardOf frameSaid stateAfter accepts late among counted told feedbackAfter nextSequence isRead
+  pub version-is-feedback : (isVersionReply 0x020001FD (version .data) ≡ true)
+      × (processFeedbackFrame (motor 7 3) version 100 .motor .state .feedback ≡ record { latest = latest.State (feedbackIn Rs00 version); sequence = 4 })
+  unfolding processFeedbackFrame frameSaid stateAfter acceptsFrame isLate among countedAt toldBy feedbackAfter nextSequence isRead
   version-is-feedback = (refl, refl)

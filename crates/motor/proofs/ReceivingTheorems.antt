@@ -12,7 +12,7 @@ use Rattle.codec.specs.declared.error.Checked.the-variants.{Passed, Refused}
 use Rattle.codec.specs.declared.registers.ParameterDataType.{ParameterDataType}
 use Rattle.codec.specs.declared.registers.ParameterDataType.the-variants.{Int8, UInt8, UInt16, UInt32, Float32}
 use Rattle.codec.specs.declared.registers.ParameterInfo.the-variants.{Listed, Unlisted}
-use Rattle.codec.specs.Kinds.{among, listedIds, kindOf, infoOf}
+use Rattle.codec.specs.Kinds.{among, listedIds, kindOf, parameterInfo}
 use Rattle.codec.specs.Refusals.{numberOf}
 use Rattle.codec.specs.Values.{le32, kindIn, valueAs, valueBy}
 use Rattle.motor.specs.declared.motor.State.{State}
@@ -20,7 +20,7 @@ use Rattle.motor.specs.declared.motor.Motor.{Motor}
 use Rattle.motor.specs.declared.readings.Entry.{Entry}
 use Rattle.motor.specs.declared.readings.Readings.{Readings}
 use Rattle.motor.specs.Readings.{entry, insert, room, putOf}
-use Rattle.motor.specs.Receive.{accepts, late, counted, pingAfter, feedbackIn, feedbackAfter, faultAfter, told, isRead, readStatus, readId, readStored, frameSaid, stateAfter, readingsAfter, isFull, heardOf}
+use Rattle.motor.specs.Receive.{acceptsFrame, isLate, countedAt, pingAfter, feedbackIn, feedbackAfter, faultAfter, toldBy, isRead, readStatus, readId, readStored, frameSaid, stateAfter, readingsAfter, isFull, processFeedbackFrame}
 use Rattle.motor.specs.Lone.{Lone, hears}
 
 -- ---- the operation and its command are as they were
@@ -29,16 +29,16 @@ abbrev pub SameOperation : State → State → Type 0
 SameOperation s t = (t .operation ≡ s .operation) × (t .command ≡ s .command)
 
 state-keeps : (said : Checked) (s : State) (f : CanFrame) (now : ℕ) → SameOperation s (stateAfter said s f now)
-unfolding stateAfter told counted
+unfolding stateAfter toldBy countedAt
 state-keeps Passed s f now = (refl, refl)
 state-keeps (Refused r) s f now = go (among (numberOf r) (14 ∷ 15 ∷ []))
   where
-    go : (b : Bool) → SameOperation s (cond b (counted s now) s)
+    go : (b : Bool) → SameOperation s (cond b (countedAt s now) s)
     go true = (refl, refl)
     go false = (refl, refl)
 
-pub frame-keeps-operation : (m : Motor) (f : CanFrame) (now : ℕ) → SameOperation (m .state) (heardOf m f now .motor .state)
-unfolding heardOf
+pub frame-keeps-operation : (m : Motor) (f : CanFrame) (now : ℕ) → SameOperation (m .state) (processFeedbackFrame m f now .motor .state)
+unfolding processFeedbackFrame
 frame-keeps-operation m f now = state-keeps (frameSaid (m .state) f now (isFull (putOf (m .readings) (readId f) (readStored f) .said))) (m .state) f now
 
 pub lone-keeps-operation : (m : Lone) (f : CanFrame) (now : ℕ) → SameOperation (m .state) (hears m f now .lone .state)
@@ -52,7 +52,7 @@ withDlc f dlc rx = record { «arbitration_id» = f .«arbitration_id»; «data»
 
 module _ (f : CanFrame) (dlc : ℕ) (rx : Bool) where
   state-ignores : (said : Checked) (s : State) (now : ℕ) → stateAfter said s (withDlc f dlc rx) now ≡ stateAfter said s f now
-  unfolding stateAfter told pingAfter feedbackAfter feedbackIn faultAfter
+  unfolding stateAfter toldBy pingAfter feedbackAfter feedbackIn faultAfter
   state-ignores Passed s now = refl
   state-ignores (Refused r) s now = refl
 
@@ -61,8 +61,8 @@ module _ (f : CanFrame) (dlc : ℕ) (rx : Bool) where
   readings-ignore Passed new old = refl
   readings-ignore (Refused r) new old = refl
 
-  pub dlc-ignored : (m : Motor) (now : ℕ) → heardOf m (withDlc f dlc rx) now ≡ heardOf m f now
-  unfolding heardOf frameSaid accepts isRead readStatus readId readStored
+  pub dlc-ignored : (m : Motor) (now : ℕ) → processFeedbackFrame m (withDlc f dlc rx) now ≡ processFeedbackFrame m f now
+  unfolding processFeedbackFrame frameSaid acceptsFrame isRead readStatus readId readStored
   dlc-ignored m now =
       let put = putOf (m .readings) (readId f) (readStored f) in
       let said = frameSaid (m .state) f now (isFull (put .said)) in
@@ -70,9 +70,9 @@ module _ (f : CanFrame) (dlc : ℕ) (rx : Bool) where
 
 -- ---- an accepted frame in time is counted, whatever its type and number
 
-module _ (s : State) (f : CanFrame) (now : ℕ) (full : Bool) (a : accepts (s .«motor_id») f ≡ true) (l : late (s .clock) now ≡ false) where
+module _ (s : State) (f : CanFrame) (now : ℕ) (full : Bool) (a : acceptsFrame (s .«motor_id») f ≡ true) (l : isLate (s .clock) now ≡ false) where
   state-counts : (stateAfter (frameSaid s f now full) s f now .clock ≡ now) × (stateAfter (frameSaid s f now full) s f now .responses ≡ (s .responses + 1) % 2 ^ 64)
-  unfolding frameSaid stateAfter told counted among
+  unfolding frameSaid stateAfter toldBy countedAt among
   state-counts = rw (a, l) (go (isRead f && not (eqb (readStatus f) 0)) (isRead f && full))
     where
       after : Bool → Bool → State
@@ -83,9 +83,9 @@ module _ (s : State) (f : CanFrame) (now : ℕ) (full : Bool) (a : accepts (s .�
       go false true = (refl, refl)
       go false false = (refl, refl)
 
-pub frame-counts : (m : Motor) (f : CanFrame) (now : ℕ) → accepts (m .state .«motor_id») f ≡ true → late (m .state .clock) now ≡ false
-    → (heardOf m f now .motor .state .clock ≡ now) × (heardOf m f now .motor .state .responses ≡ (m .state .responses + 1) % 2 ^ 64)
-unfolding heardOf
+pub frame-counts : (m : Motor) (f : CanFrame) (now : ℕ) → acceptsFrame (m .state .«motor_id») f ≡ true → isLate (m .state .clock) now ≡ false
+    → (processFeedbackFrame m f now .motor .state .clock ≡ now) × (processFeedbackFrame m f now .motor .state .responses ≡ (m .state .responses + 1) % 2 ^ 64)
+unfolding processFeedbackFrame
 frame-counts m f now = state-counts (m .state) f now (isFull (putOf (m .readings) (readId f) (readStored f) .said))
 
 -- ---- the kind of what is held: the table's, and UInt32 for an unlisted id
@@ -101,7 +101,7 @@ kind-in UInt32 raw = refl
 kind-in Float32 raw = refl
 
 pub kinds-held : (f : CanFrame) → kindIn (readStored f .value) ≡ heldKind (readId f)
-unfolding readStored heldKind infoOf
+unfolding readStored heldKind parameterInfo
 kinds-held f = go (among (readId f) listedIds)
   where
     go : (b : Bool) → kindIn (valueBy (cond b (Listed (kindOf (readId f))) Unlisted) (le32 (f .data) 4)) ≡ cond b (kindOf (readId f)) UInt32

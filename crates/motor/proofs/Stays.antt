@@ -13,7 +13,7 @@ use Rattle.codec.specs.declared.protocol.EncodedValue.the-variants as encoded
 use Rattle.codec.specs.declared.protocol.ParameterValue.{ParameterValue}
 use Rattle.codec.specs.declared.registers.ParameterInfo.{ParameterInfo}
 use Rattle.codec.specs.declared.registers.ParameterInfo.the-variants as info
-use Rattle.codec.specs.Kinds.{among, kindNumber, infoOf}
+use Rattle.codec.specs.Kinds.{among, kindNumber, parameterInfo}
 use Rattle.codec.specs.Refusals.{numberOf}
 use Rattle.codec.specs.Values.{kindIn, rawOf, encodedBy}
 use Rattle.motor.specs.declared.engine.command.Command.{Command}
@@ -22,9 +22,9 @@ use Rattle.motor.specs.declared.engine.command.Said.{Said}
 use Rattle.motor.specs.declared.engine.command.Said.the-variants as said
 use Rattle.motor.specs.declared.engine.operation.Phase.{Phase}
 use Rattle.motor.specs.Limits.{longestTimeout}
-use Rattle.motor.specs.Calls.{isIdle, timeoutOf, arguedOf, encodes, orElse, admittedOf, startSaid, stepSaid}
+use Rattle.motor.specs.Calls.{isIdle, timeoutOf, arguedOf, encodes, orElse, startAdmitted, startSaid, stepSaid}
 use Rattle.motor.specs.Numbers.{firstOf}
-use Rattle.motor.specs.Receive.{late}
+use Rattle.motor.specs.Receive.{isLate}
 
 -- ---- the numbers
 
@@ -55,9 +55,9 @@ two-stay true b r s p q = p
 two-stay false true r s p q = q
 two-stay false false r s p q = tt
 
-admitted-stays : (clock : ℕ) (p : Phase) (c : Command) (now : ℕ) → Stays (admittedOf clock p c now)
+admitted-stays : (clock : ℕ) (p : Phase) (c : Command) (now : ℕ) → Stays (startAdmitted clock p c now)
 unfolding among
-admitted-stays clock p c now = go (late clock now) (not (isIdle p)) (ltb longestTimeout (timeoutOf c))
+admitted-stays clock p c now = go (isLate clock now) (not (isIdle p)) (ltb longestTimeout (timeoutOf c))
   where
     go : (a b d : Bool) → Stays (firstOf ((a, refusal.TimeOutOfRange) ∷ (b, refusal.OperationRunning) ∷ (d, refusal.TimeoutTooLong) ∷ []))
     go true b d = refl
@@ -97,7 +97,7 @@ argued-stays (command.SendCmdMit position velocity kp kd torque) = tt
 argued-stays (command.SetVelocityTarget velocity) = tt
 argued-stays (command.GetControlMode timeout) = tt
 argued-stays (command.ControlledStop timeout) = tt
-argued-stays (command.WriteParameter id v) = written-stays (infoOf id) v
+argued-stays (command.WriteParameter id v) = written-stays (parameterInfo id) v
 argued-stays (command.SendCmdPosVelCsp position most) = tt
 argued-stays (command.SendCmdPosVelPp position most acceleration) = tt
 argued-stays (command.RequestParameter id) = tt
@@ -107,7 +107,7 @@ argued-stays (command.GetParameterF32 id timeout) = tt
 argued-stays (command.GetParameterI8 id timeout) = tt
 
 pub start-stays : (clock : ℕ) (p : Phase) (c : Command) (now : ℕ) → Stays (startSaid clock p c now)
-start-stays clock p c now = go (admittedOf clock p c now) (admitted-stays clock p c now)
+start-stays clock p c now = go (startAdmitted clock p c now) (admitted-stays clock p c now)
   where
     go : (a : Checked) → Stays a → Stays (orElse a (arguedOf c))
     go checked.Passed h = argued-stays c
@@ -115,7 +115,7 @@ start-stays clock p c now = go (admittedOf clock p c now) (admitted-stays clock 
 
 pub step-stays : (clock : ℕ) (p : Phase) (now : ℕ) → Stays (stepSaid clock p now)
 unfolding among
-step-stays clock p now = two-stay (late clock now) (isIdle p) refusal.TimeOutOfRange refusal.NothingRunning refl refl
+step-stays clock p now = two-stay (isLate clock now) (isIdle p) refusal.TimeOutOfRange refusal.NothingRunning refl refl
 
 -- what passes has passed the argument tests; what may step runs
 

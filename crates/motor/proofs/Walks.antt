@@ -12,7 +12,7 @@ use Rattle.motor.specs.declared.readings.Readings.{Readings}
 use Rattle.motor.specs.declared.readings.Entry.{Entry}
 use Rattle.motor.specs.declared.readings.Listing.{Listing}
 use Rattle.motor.specs.Limits.{mostReadings}
-use Rattle.motor.specs.Readings.{entry, noStored, noEntry, nextAt, entryAt, Holds, listing, walk, listingOf}
+use Rattle.motor.specs.Readings.{entry, blankStored, noEntry, nextAt, entryAt, Holds, listing, walk, listedOf}
 use Rattle.motor.proofs.ReadingsHeld.{listing-holds}
 
 -- ---- steps of the walk
@@ -42,7 +42,7 @@ pub record Walked (rs : Readings) (es : List Entry) (count n : ℕ) : Type 0 whe
   pub filled : es ≡ passed ++ replicate (mostReadings - count) noEntry
   pub rest : passed ++ walk (mostReadings - count) (rs .records) n ≡ walk mostReadings (rs .records) (nextAt (rs .records) 0)
 
-pub walked-first : (rs : Readings) (s : Stored) → s ≡ noStored → Walked rs (replicate mostReadings (entry 0 s)) 0 (nextAt (rs .records) 0)
+pub walked-first : (rs : Readings) (s : Stored) → s ≡ blankStored → Walked rs (replicate mostReadings (entry 0 s)) 0 (nextAt (rs .records) 0)
 walked-first rs s e = record { passed = []; most = omega arith; counted = refl; filled = rw e; rest = refl }
 
 pub walked-more : (rs : Readings) (es : List Entry) (count n : ℕ) → Walked rs es count n → count < mostReadings → (n ≡ 0 → ⊥) → n ≤ mostReadings
@@ -69,7 +69,7 @@ module _ (rs : Readings) (es : List Entry) (count n : ℕ) (x : Walked rs es cou
   listed = record { count = count; entries = es }
 
   abbrev Ended : Type 0
-  Ended = (listed ≡ listingOf rs) × ((l : List Entry) → Holds rs l → listed ≡ listing l)
+  Ended = (listed ≡ listedOf rs) × ((l : List Entry) → Holds rs l → listed ≡ listing l)
 
   ended : walk (mostReadings - count) (rs .records) n ≡ [] → Ended
   ended w =

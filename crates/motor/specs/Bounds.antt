@@ -19,19 +19,19 @@ use Rattle.motor.specs.Lone.{Lone, LoneAnswered, loneNew, loneStart, lon
 -- ---- what happens to a motor, in any order
 
 -- other: a look, a registration again, or a removal that is refused; each leaves the motor as it is
-pub data Event : Type 0 where
-  start : Command → ℕ → Event
-  step : ℕ → Event
-  frame : CanFrame → ℕ → Event
-  other : Event
+pub data LoneEvent : Type 0 where
+  start : Command → ℕ → LoneEvent
+  step : ℕ → LoneEvent
+  frame : CanFrame → ℕ → LoneEvent
+  other : LoneEvent
 
-abbrev pub after : Lone → Event → Lone
+abbrev pub after : Lone → LoneEvent → Lone
 after l (start c now) = loneStart l c now .lone
 after l (step now) = loneStep l now .lone
 after l (frame f now) = hears l f now .lone
 after l other = l
 
-abbrev pub afterAll : Lone → List Event → Lone
+abbrev pub afterAll : Lone → List LoneEvent → Lone
 afterAll l [] = l
 afterAll l (e ∷ es) = afterAll (after l e) es
 
@@ -45,7 +45,7 @@ hasFrame (said.Finished r) = false
 hasFrame (said.FinishedWith r) = true
 hasFrame (said.Refused r) = false
 
-abbrev pub sends : Lone → Event → Bool
+abbrev pub sends : Lone → LoneEvent → Bool
 sends l (start c now) = hasFrame (loneStart l c now .said)
 sends l (step now) = hasFrame (loneStep l now .said)
 sends l (frame f now) = false
@@ -56,7 +56,7 @@ passes checked.Passed = true
 passes (checked.Refused r) = false
 
 -- a step that 7 and 21 don't refuse, at or after the last due time given
-abbrev pub isDue : Lone → Event → Bool
+abbrev pub isDue : Lone → LoneEvent → Bool
 isDue l (start c now) = false
 isDue l (step now) =
     passes (stepSaid (l .state .clock) (l .state .operation .phase) now) && not (ltb now (l .state .operation .due))
@@ -67,7 +67,7 @@ abbrev pub once : Bool → ℕ
 once b = cond b 1 0
 
 -- how many of these events pass the test, as long as the operation runs
-abbrev pub count : (Lone → Event → Bool) → Lone → List Event → ℕ
+abbrev pub count : (Lone → LoneEvent → Bool) → Lone → List LoneEvent → ℕ
 count test l [] = 0
 count test l (e ∷ es) = cond (isIdle (l .state .operation .phase)) 0 (once (test l e) + count test (after l e) es)
 
@@ -121,13 +121,13 @@ Accepted l c now = startSaid (l .state .clock) (l .state .operation .phase) c no
 -- No operation sends more than 32 frames or needs more than 40 due steps, whatever comes after its start. A step at or after the due time
 -- never answers waiting, save with a later due time. Every due time that a motor gives lies between now and now + 60,000
 pub record Bounds : Type 0 where
-  pub frames : (l : Lone) (c : Command) (now : ℕ) (es : List Event) → Accepted l c now
+  pub frames : (l : Lone) (c : Command) (now : ℕ) (es : List LoneEvent) → Accepted l c now
       → once (sends l (start c now)) + count sends (after l (start c now)) es ≤ limitOf c
   pub limits : (c : Command) → limitOf c ≤ mostFrames
-  pub steps : (l : Lone) (c : Command) (now : ℕ) (es : List Event) → Accepted l c now → count isDue (after l (start c now)) es ≤ mostDueSteps
+  pub steps : (l : Lone) (c : Command) (now : ℕ) (es : List LoneEvent) → Accepted l c now → count isDue (after l (start c now)) es ≤ mostDueSteps
   pub waits : (l : Lone) (now d : ℕ) → l .state .operation .due ≤ now → loneStep l now .said ≡ said.Waiting d
       → (now < d) × (l .state .operation .due < d)
-  pub started : (id host : ℕ) (model : Model) (wait since : ℕ) (es : List Event) (c : Command) (now : ℕ)
+  pub started : (id host : ℕ) (model : Model) (wait since : ℕ) (es : List LoneEvent) (c : Command) (now : ℕ)
       → Given now (loneStart (afterAll (loneNew id host model wait since) es) c now)
-  pub stepped : (id host : ℕ) (model : Model) (wait since : ℕ) (es : List Event) (now : ℕ)
+  pub stepped : (id host : ℕ) (model : Model) (wait since : ℕ) (es : List LoneEvent) (now : ℕ)
       → Given now (loneStep (afterAll (loneNew id host model wait since) es) now)

@@ -13,8 +13,8 @@ use Rattle.codec.specs.declared.model.ModelNamed.{ModelNamed}
 use Rattle.codec.specs.declared.model.ModelNamed.the-variants as named
 use Rattle.codec.specs.declared.protocol.EncodedValue.{EncodedValue}
 use Rattle.codec.specs.declared.protocol.EncodedValue.the-variants as encoded
-use Rattle.codec.specs.Replies.{zeros, protocolChecked}
-use Rattle.codec.specs.Values.{encodedValue}
+use Rattle.codec.specs.Replies.{zeros, validateProtocolCmd}
+use Rattle.codec.specs.Values.{encodeParameterValue}
 use Rattle.motor.specs.declared.engine.command.Command.{Command}
 use Rattle.motor.specs.declared.engine.command.Command.the-variants as command
 use Rattle.motor.specs.declared.engine.operation.Effect.{Effect}
@@ -37,8 +37,8 @@ use Rattle.motor.specs.declared.engine.reading.Found.{Found}
 use Rattle.motor.specs.declared.engine.reading.Found.the-variants as found
 use Rattle.motor.specs.Limits.{longestTimeout, latestTime}
 use Rattle.motor.specs.Numbers.{firstOf}
-use Rattle.motor.specs.Receive.{late}
-use Rattle.motor.specs.engine.Run.{idle}
+use Rattle.motor.specs.Receive.{isLate}
+use Rattle.motor.specs.engine.Run.{noOperation}
 
 -- ---- registration: 1, 2, 3, 9, 7
 
@@ -130,7 +130,7 @@ arguedOf (command.EnsureControlMode m timeout) = checked.Passed
 arguedOf command.SetZeroPosition = checked.Passed
 arguedOf command.SaveParameters = checked.Passed
 arguedOf (command.GetProtocolFlag timeout) = checked.Passed
-arguedOf (command.SetProtocol protocol timeout) = protocolChecked protocol
+arguedOf (command.SetProtocol protocol timeout) = validateProtocolCmd protocol
 arguedOf (command.SetDeviceId new) = newIdChecked new
 arguedOf command.Enable = checked.Passed
 arguedOf command.Disable = checked.Passed
@@ -140,7 +140,7 @@ arguedOf (command.SendCmdMit p v kp kd t) = checked.Passed
 arguedOf (command.SetVelocityTarget v) = checked.Passed
 arguedOf (command.GetControlMode timeout) = checked.Passed
 arguedOf (command.ControlledStop timeout) = checked.Passed
-arguedOf (command.WriteParameter id v) = encodes (encodedValue id v)
+arguedOf (command.WriteParameter id v) = encodes (encodeParameterValue id v)
 arguedOf (command.SendCmdPosVelCsp p v) = checked.Passed
 arguedOf (command.SendCmdPosVelPp p v a) = checked.Passed
 arguedOf (command.RequestParameter id) = checked.Passed
@@ -154,22 +154,22 @@ abbrev pub orElse : Checked → Checked → Checked
 orElse checked.Passed after = after
 orElse (checked.Refused r) after = checked.Refused r
 
-abbrev pub admittedOf : ℕ → Phase → Command → ℕ → Checked
-admittedOf clock phase c now =
+abbrev pub startAdmitted : ℕ → Phase → Command → ℕ → Checked
+startAdmitted clock phase c now =
     firstOf
-    ((late clock now, refusal.TimeOutOfRange)
+    ((isLate clock now, refusal.TimeOutOfRange)
     ∷ (not (isIdle phase), refusal.OperationRunning)
     ∷ (ltb longestTimeout (timeoutOf c), refusal.TimeoutTooLong)
     ∷ [])
 
 abbrev pub startSaid : ℕ → Phase → Command → ℕ → Checked
-startSaid clock phase c now = orElse (admittedOf clock phase c now) (arguedOf c)
+startSaid clock phase c now = orElse (startAdmitted clock phase c now) (arguedOf c)
 
 abbrev pub stepSaid : ℕ → Phase → ℕ → Checked
-stepSaid clock phase now = firstOf ((late clock now, refusal.TimeOutOfRange) ∷ (isIdle phase, refusal.NothingRunning) ∷ [])
+stepSaid clock phase now = firstOf ((isLate clock now, refusal.TimeOutOfRange) ∷ (isIdle phase, refusal.NothingRunning) ∷ [])
 
 abbrev pub removeSaid : ℕ → Phase → ℕ → Checked
-removeSaid clock phase now = firstOf ((late clock now, refusal.TimeOutOfRange) ∷ (not (isIdle phase), refusal.OperationRunning) ∷ [])
+removeSaid clock phase now = firstOf ((isLate clock now, refusal.TimeOutOfRange) ∷ (not (isIdle phase), refusal.OperationRunning) ∷ [])
 
 -- ---- what is held at first, and what a move changes
 
@@ -196,7 +196,7 @@ newState id host model wait now =
       gains = noGains;
       «fault_report» = fault.Nothing;
       «ping_reply» = noPing;
-      operation = idle;
+      operation = noOperation;
       command = noCommand;
     }
 
@@ -249,8 +249,8 @@ commandIn (phase.Pausing k) c = c
 commandIn (phase.Waiting w) c = c
 
 -- the state after a move of this command at this time
-abbrev pub movedBy : State → ℕ → Command → Operation → Effect → State
-movedBy s now c op e =
+abbrev pub stateBy : State → ℕ → Command → Operation → Effect → State
+stateBy s now c op e =
     record {
       «motor_id» = s .«motor_id»;
       «feedback_id» = s .«feedback_id»;

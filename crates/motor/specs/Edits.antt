@@ -16,12 +16,12 @@ use Rattle.motor.specs.declared.edits.Edit.{Edit}
 use Rattle.motor.specs.declared.edits.PutEdit.{PutEdit}
 use Rattle.motor.specs.declared.edits.ReadHeard.{ReadHeard}
 use Rattle.motor.specs.Limits.{mostReadings}
-use Rattle.motor.specs.Readings.{entry, reading, recAt, nextAt, storedAt, withNext, placeOf, holderOf}
-use Rattle.motor.specs.Receive.{accepts, late, counted, readStatus, readId, readStored}
+use Rattle.motor.specs.Readings.{entry, reading, recAt, nextAt, storedAt, withNext, seekOf, holderOf}
+use Rattle.motor.specs.Receive.{acceptsFrame, isLate, countedAt, readStatus, readId, readStored}
 
 -- the readings once the edit is stored
-unfoldable pub edited : Readings → Edit → Readings
-edited rs e = withNext (storedAt rs (e .first) (e .one) (e .free)) (e .second) (e .link)
+unfoldable pub editedBy : Readings → Edit → Readings
+editedBy rs e = withNext (storedAt rs (e .first) (e .one) (e .free)) (e .second) (e .link)
 
 -- ---- what a put stores, on any value
 
@@ -58,7 +58,7 @@ unfoldable pub putEditAt : Readings → ℕ → Stored → ℕ → ℕ → PutEd
 putEditAt rs id s q n = cond (eqb n 0) (addEdit rs id s q) (keptEdit (replaceEdit rs n id s))
 
 abbrev pub putEdit : Readings → ℕ → Stored → PutEdit
-putEdit rs id s = putEditAt rs id s (placeOf rs id) (holderOf rs id)
+putEdit rs id s = putEditAt rs id s (seekOf rs id) (holderOf rs id)
 
 -- ---- a read reply: 13, 7, 14, 15
 
@@ -70,13 +70,13 @@ abbrev pub readPut : State → Readings → Edit → PutAnswer → ReadHeard
 readPut state rs e Kept = record { state = state; edit = e; said = Passed }
 readPut state rs e Full = readKept state rs (Refused ReadingsFull)
 
-unfoldable pub readHeard : Motor → CanFrame → ℕ → ReadHeard
-readHeard m f now =
+unfoldable pub hearRead : Motor → CanFrame → ℕ → ReadHeard
+hearRead m f now =
     let s = m .state in
     let rs = m .readings in
     let put = putEdit rs (readId f) (readStored f) in
-    cond (accepts (s .«motor_id») f)
-    (cond (late (s .clock) now) (readKept s rs (Refused TimeOutOfRange))
-    (cond (eqb (readStatus f) 0) (readPut (counted s now) rs (put .edit) (put .said))
-    (readKept (counted s now) rs (Refused (ReadFailed (readId f) (readStatus f))))))
+    cond (acceptsFrame (s .«motor_id») f)
+    (cond (isLate (s .clock) now) (readKept s rs (Refused TimeOutOfRange))
+    (cond (eqb (readStatus f) 0) (readPut (countedAt s now) rs (put .edit) (put .said))
+    (readKept (countedAt s now) rs (Refused (ReadFailed (readId f) (readStatus f))))))
     (readKept s rs (Refused FrameNotAccepted))

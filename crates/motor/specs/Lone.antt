@@ -16,12 +16,12 @@ use Rattle.motor.specs.declared.engine.operation.Move.{Move}
 use Rattle.motor.specs.declared.motor.Seen.{Seen}
 use Rattle.motor.specs.declared.motor.State.{State}
 use Rattle.motor.specs.declared.readings.Entry.{Entry}
-use Rattle.motor.specs.Calls.{registerNumbers, newState, sightOf, movedBy, readingsBy, wanted, startSaid, stepSaid, removeSaid}
+use Rattle.motor.specs.Calls.{registerNumbers, newState, sightOf, stateBy, readingsBy, wanted, startSaid, stepSaid, removeSaid}
 use Rattle.motor.specs.Numbers.{firstOf}
 use Rattle.motor.specs.Readings.{lookup, insert, remove, room, listing}
 use Rattle.motor.specs.Receive.{frameSaid, stateAfter, readingsAfter, readId, readStored}
 use Rattle.motor.specs.engine.Requests.{noFrame}
-use Rattle.motor.specs.engine.Run.{advance, begin}
+use Rattle.motor.specs.engine.Run.{advanced, begunBy}
 
 -- clock, response count, feedback with its sequence, gains, fault report, ping reply and running operation; a list of readings in
 -- rising id
@@ -57,7 +57,7 @@ loneMoved l now c v =
     record {
       lone =
           record {
-            state = movedBy (l .state) now c (v .operation) (v .effect);
+            state = stateBy (l .state) now c (v .operation) (v .effect);
             readings = readingsBy (v .effect) (λ id. remove id (l .readings)) (l .readings);
           };
       said = v .said;
@@ -66,7 +66,7 @@ loneMoved l now c v =
     }
 
 abbrev pub loneStartBy : Checked → Lone → Command → ℕ → LoneAnswered
-loneStartBy checked.Passed l c now = loneMoved l now c (begin (sightOf (l .state)) now c)
+loneStartBy checked.Passed l c now = loneMoved l now c (begunBy (sightOf (l .state)) now c)
 loneStartBy (checked.Refused r) l c now = loneRefused l (said.Refused r)
 
 abbrev pub loneStart : Lone → Command → ℕ → LoneAnswered
@@ -75,7 +75,7 @@ loneStart l c now = loneStartBy (startSaid (l .state .clock) (l .state .operatio
 abbrev pub loneStepBy : Checked → Lone → ℕ → LoneAnswered
 loneStepBy checked.Passed l now =
     let op = l .state .operation in
-    loneMoved l now (l .state .command) (advance (sightOf (l .state)) now op (wanted (op .phase) (λ id. lookup id (l .readings))) (op .phase))
+    loneMoved l now (l .state .command) (advanced (sightOf (l .state)) now op (wanted (op .phase) (λ id. lookup id (l .readings))) (op .phase))
 loneStepBy (checked.Refused r) l now = loneRefused l (said.Refused r)
 
 abbrev pub loneStep : Lone → ℕ → LoneAnswered

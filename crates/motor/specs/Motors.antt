@@ -15,11 +15,11 @@ use Rattle.motor.specs.declared.motor.Seen.{Seen}
 use Rattle.motor.specs.declared.motor.Motor.{Motor}
 use Rattle.motor.specs.declared.readings.Entry.{Entry}
 use Rattle.motor.specs.declared.receive.Heard.{Heard}
-use Rattle.motor.specs.Calls.{newState, sightOf, movedBy, readingsBy, wanted, startSaid, stepSaid, removeSaid}
+use Rattle.motor.specs.Calls.{newState, sightOf, stateBy, readingsBy, wanted, startSaid, stepSaid, removeSaid}
 use Rattle.motor.specs.Lone.{Lone, LoneAnswered, LoneHeard}
-use Rattle.motor.specs.Readings.{Holds, emptyReadings, findOf, dropOf, listingOf}
+use Rattle.motor.specs.Readings.{Holds, emptyReadings, findOf, dropId, listedOf}
 use Rattle.motor.specs.engine.Requests.{noFrame}
-use Rattle.motor.specs.engine.Run.{advance, begin}
+use Rattle.motor.specs.engine.Run.{advanced, begunBy}
 
 -- ---- new, start, step, look, removal
 
@@ -29,13 +29,13 @@ newMotor id host model wait now = record { state = newState id host model wait n
 abbrev pub refusedOf : Motor → Said → Answered
 refusedOf m s = record { motor = m; said = s; frame = noFrame; result = zeros }
 
-abbrev pub movedOf : Motor → ℕ → Command → Move → Answered
-movedOf m now c v =
+abbrev pub movedBy : Motor → ℕ → Command → Move → Answered
+movedBy m now c v =
     record {
       motor =
           record {
-            state = movedBy (m .state) now c (v .operation) (v .effect);
-            readings = readingsBy (v .effect) (λ id. dropOf (m .readings) id) (m .readings);
+            state = stateBy (m .state) now c (v .operation) (v .effect);
+            readings = readingsBy (v .effect) (λ id. dropId (m .readings) id) (m .readings);
           };
       said = v .said;
       frame = v .frame;
@@ -43,7 +43,7 @@ movedOf m now c v =
     }
 
 abbrev pub startBy : Checked → Motor → Command → ℕ → Answered
-startBy checked.Passed m c now = movedOf m now c (begin (sightOf (m .state)) now c)
+startBy checked.Passed m c now = movedBy m now c (begunBy (sightOf (m .state)) now c)
 startBy (checked.Refused r) m c now = refusedOf m (said.Refused r)
 
 abbrev pub startOf : Motor → Command → ℕ → Answered
@@ -52,14 +52,14 @@ startOf m c now = startBy (startSaid (m .state .clock) (m .state .operation .pha
 abbrev pub stepBy : Checked → Motor → ℕ → Answered
 stepBy checked.Passed m now =
     let op = m .state .operation in
-    movedOf m now (m .state .command) (advance (sightOf (m .state)) now op (wanted (op .phase) (λ id. findOf (m .readings) id)) (op .phase))
+    movedBy m now (m .state .command) (advanced (sightOf (m .state)) now op (wanted (op .phase) (λ id. findOf (m .readings) id)) (op .phase))
 stepBy (checked.Refused r) m now = refusedOf m (said.Refused r)
 
 abbrev pub stepOf : Motor → ℕ → Answered
 stepOf m now = stepBy (stepSaid (m .state .clock) (m .state .operation .phase) now) m now
 
 abbrev pub lookOf : Motor → Seen
-lookOf m = record { state = m .state; readings = listingOf (m .readings) }
+lookOf m = record { state = m .state; readings = listedOf (m .readings) }
 
 abbrev pub removalOf : Motor → ℕ → Checked
 removalOf m now = removeSaid (m .state .clock) (m .state .operation .phase) now

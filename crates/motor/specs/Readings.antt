@@ -85,10 +85,10 @@ recordOf id [] = 0
 recordOf id (h ∷ hs) = cond (eqb (h .1 .id) id) (h .0) (recordOf id hs)
 
 -- s kept for id: in the record that holds id, else in record n
-abbrev pub placeIn : ℕ → ℕ → Stored → List Numbered → List Numbered
-placeIn n id s [] = (n, entry id s) ∷ []
-placeIn n id s (h ∷ hs) =
-    cond (ltb (h .1 .id) id) (h ∷ placeIn n id s hs)
+abbrev pub placedIn : ℕ → ℕ → Stored → List Numbered → List Numbered
+placedIn n id s [] = (n, entry id s) ∷ []
+placedIn n id s (h ∷ hs) =
+    cond (ltb (h .1 .id) id) (h ∷ placedIn n id s hs)
     (cond (eqb (h .1 .id) id) ((h .0, entry id s) ∷ hs) ((n, entry id s) ∷ h ∷ hs))
 
 abbrev pub takeOut : ℕ → List Numbered → List Numbered
@@ -98,11 +98,11 @@ takeOut id (h ∷ hs) = cond (eqb (h .1 .id) id) hs (h ∷ takeOut id hs)
 -- a new id takes the first free record, where there is one
 abbrev pub newIn : ℕ → Stored → List Numbered → List ℕ → Lists
 newIn id s held [] = record { held = held; free = [] }
-newIn id s held (f ∷ fs) = record { held = placeIn f id s held; free = fs }
+newIn id s held (f ∷ fs) = record { held = placedIn f id s held; free = fs }
 
 abbrev pub putIn : ℕ → Stored → Lists → Lists
 putIn id s ls =
-    cond (holds id (entries (ls .held))) (record { held = placeIn 0 id s (ls .held); free = ls .free })
+    cond (holds id (entries (ls .held))) (record { held = placedIn 0 id s (ls .held); free = ls .free })
     (newIn id s (ls .held) (ls .free))
 
 -- the record that held id goes first on the free list
@@ -114,11 +114,11 @@ dropIn id ls =
 -- ---- the records
 
 -- what a record that holds nothing keeps
-abbrev pub noStored : Stored
-noStored = record { value = I8 (pos 0) }
+abbrev pub blankStored : Stored
+blankStored = record { value = I8 (pos 0) }
 
 abbrev pub noEntry : Entry
-noEntry = entry 0 noStored
+noEntry = entry 0 blankStored
 
 abbrev pub reading : Entry → ℕ → Reading
 reading e n = record { id = e .id; held = e .held; next = n }
@@ -197,8 +197,8 @@ seekFrom zero records id p = p
 seekFrom (suc k) records id p =
     cond (before records id (nextAt records p)) (seekFrom k records id (nextAt records p)) p
 
-abbrev pub placeOf : Readings → ℕ → ℕ
-placeOf rs id = seekFrom mostReadings (rs .records) id 0
+abbrev pub seekOf : Readings → ℕ → ℕ
+seekOf rs id = seekFrom mostReadings (rs .records) id 0
 
 -- the record after record p where it holds id, else 0
 unfoldable pub holderAt : List Reading → ℕ → ℕ → ℕ
@@ -207,7 +207,7 @@ holderAt records id p =
     cond (eqb n 0) 0 (cond (ltb mostReadings n) 0 (cond (eqb (idAt records n) id) n 0))
 
 abbrev pub holderOf : Readings → ℕ → ℕ
-holderOf rs id = holderAt (rs .records) id (placeOf rs id)
+holderOf rs id = holderAt (rs .records) id (seekOf rs id)
 
 unfoldable pub foundAt : Readings → ℕ → Found
 foundAt rs n = cond (eqb n 0) Nothing (Held (recAt (rs .records) n .held))
@@ -253,13 +253,13 @@ unfoldable pub putAt : Readings → ℕ → Stored → ℕ → ℕ → PutResult
 putAt rs id s q n = cond (eqb n 0) (addAt rs id s q) (kept (replacedAt rs n id s))
 
 abbrev pub putOf : Readings → ℕ → Stored → PutResult
-putOf rs id s = putAt rs id s (placeOf rs id) (holderOf rs id)
+putOf rs id s = putAt rs id s (seekOf rs id) (holderOf rs id)
 
 unfoldable pub dropAt : Readings → ℕ → ℕ → Readings
 dropAt rs q n = cond (eqb n 0) rs (unlinkedAt rs q n)
 
-abbrev pub dropOf : Readings → ℕ → Readings
-dropOf rs id = dropAt rs (placeOf rs id) (holderOf rs id)
+abbrev pub dropId : Readings → ℕ → Readings
+dropId rs id = dropAt rs (seekOf rs id) (holderOf rs id)
 
 -- the entries along the chain from record h, k at most
 unfoldable pub walk : ℕ → List Reading → ℕ → List Entry
@@ -267,5 +267,5 @@ walk zero records h = []
 walk (suc k) records h =
     cond (eqb h 0) [] (cond (ltb mostReadings h) [] (entryAt records h ∷ walk k records (nextAt records h)))
 
-abbrev pub listingOf : Readings → Listing
-listingOf rs = listing (walk mostReadings (rs .records) (nextAt (rs .records) 0))
+abbrev pub listedOf : Readings → Listing
+listedOf rs = listing (walk mostReadings (rs .records) (nextAt (rs .records) 0))

@@ -15,10 +15,10 @@ use Rattle.codec.specs.Refusals.{numberOf}
 use Rattle.codec.specs.Ids.{typeOf, extraOf}
 use Rattle.codec.specs.Kinds.{among}
 use Rattle.codec.specs.Models.{limitsOf}
-use Rattle.codec.specs.Status.{statusFrame}
-use Rattle.codec.specs.Faults.{faultReport}
+use Rattle.codec.specs.Status.{decodeStatusFrame}
+use Rattle.codec.specs.Faults.{decodeFaultReport}
 use Rattle.codec.specs.Replies.{pingReply}
-use Rattle.codec.specs.Values.{readValue}
+use Rattle.codec.specs.Values.{decodeReadParameterValue}
 use Rattle.motor.specs.declared.engine.operation.HeldPing.{HeldPing}
 use Rattle.motor.specs.declared.feedback.MotorFeedbackState.{MotorFeedbackState}
 use Rattle.motor.specs.declared.feedback.FeedbackCache.{FeedbackCache}
@@ -44,12 +44,12 @@ abbrev pub frameExtra : CanFrame → ℕ
 frameExtra f = extraOf (f .«arbitration_id»)
 
 -- accepted: extended, type 0, 2, 17, 21, 24 or 25, low byte of the extra field equal to the motor's id
-unfoldable pub accepts : ℕ → CanFrame → Bool
-accepts id f = f .«is_extended» && (among (frameType f) (0 ∷ 2 ∷ 17 ∷ 21 ∷ 24 ∷ 25 ∷ []) && eqb (frameExtra f % 256) id)
+unfoldable pub acceptsFrame : ℕ → CanFrame → Bool
+acceptsFrame id f = f .«is_extended» && (among (frameType f) (0 ∷ 2 ∷ 17 ∷ 21 ∷ 24 ∷ 25 ∷ []) && eqb (frameExtra f % 256) id)
 
 -- 7: time below the motor's clock, or above 10^15
-unfoldable pub late : ℕ → ℕ → Bool
-late clock now = ltb now clock || ltb latestTime now
+unfoldable pub isLate : ℕ → ℕ → Bool
+isLate clock now = ltb now clock || ltb latestTime now
 
 -- ---- what frames change of the state: the rest of it stays
 
@@ -71,8 +71,8 @@ stateWith s clock responses feedback fault ping =
     }
 
 -- the clock takes the frame's time; response count +1 (wraps in 64 bits)
-unfoldable pub counted : State → ℕ → State
-counted s now = stateWith s now ((s .responses + 1) % 2 ^ 64) (s .feedback) (s .«fault_report») (s .«ping_reply»)
+unfoldable pub countedAt : State → ℕ → State
+countedAt s now = stateWith s now ((s .responses + 1) % 2 ^ 64) (s .feedback) (s .«fault_report») (s .«ping_reply»)
 
 -- 0: hold the ping reply
 unfoldable pub pingAfter : HeldPing → CanFrame → HeldPing
@@ -98,26 +98,26 @@ stateIn id status =
     }
 
 unfoldable pub feedbackIn : Model → CanFrame → MotorFeedbackState
-feedbackIn model f = stateIn (f .«arbitration_id») (statusFrame (frameExtra f) (f .data) (limitsOf model))
+feedbackIn model f = stateIn (f .«arbitration_id») (decodeStatusFrame (frameExtra f) (f .data) (limitsOf model))
 
 -- sequence +1 (stays at its maximum)
 unfoldable pub nextSequence : ℕ → ℕ
 nextSequence n = min (n + 1) (2 ^ 64 - 1)
 
-abbrev pub updated : FeedbackCache → MotorFeedbackState → FeedbackCache
-updated old state = record { latest = latest.State state; sequence = nextSequence (old .sequence) }
+abbrev pub update : FeedbackCache → MotorFeedbackState → FeedbackCache
+update old state = record { latest = latest.State state; sequence = nextSequence (old .sequence) }
 
 -- 2 and 24: new feedback
 unfoldable pub feedbackAfter : FeedbackCache → Model → CanFrame → FeedbackCache
-feedbackAfter old model f = cond (eqb (frameType f) 2 || eqb (frameType f) 24) (updated old (feedbackIn model f)) old
+feedbackAfter old model f = cond (eqb (frameType f) 2 || eqb (frameType f) 24) (update old (feedbackIn model f)) old
 
 -- 21: hold the fault report
 unfoldable pub faultAfter : HeldFault → CanFrame → HeldFault
-faultAfter old f = cond (eqb (frameType f) 21) (fault.Report (faultReport (f .data))) old
+faultAfter old f = cond (eqb (frameType f) 21) (fault.Report (decodeFaultReport (f .data))) old
 
 -- what types 0, 2, 24 and 21 tell; 25 and 17 nothing here
-unfoldable pub told : State → CanFrame → State
-told s f =
+unfoldable pub toldBy : State → CanFrame → State
+toldBy s f =
     stateWith s (s .clock) (s .responses) (feedbackAfter (s .feedback) (s .model) f) (faultAfter (s .«fault_report») f) (pingAfter (s .«ping_reply») f)
 
 -- ---- 17: status is the extra field's high byte; zero holds the value
@@ -133,14 +133,14 @@ unfoldable pub readId : CanFrame → ℕ
 readId f = getD (f .data) 0 0 + getD (f .data) 1 0 * 256
 
 unfoldable pub readStored : CanFrame → Stored
-readStored f = record { value = readValue (readId f) (f .data) }
+readStored f = record { value = decodeReadParameterValue (readId f) (f .data) }
 
 -- ---- Frame: 13, 7, 14, 15. `full` where there is no room for the value
 
 abbrev pub frameNumbers : State → CanFrame → ℕ → Bool → List (Bool × Refusal)
 frameNumbers s f now full =
-    (not (accepts (s .«motor_id») f), FrameNotAccepted)
-    ∷ (late (s .clock) now, TimeOutOfRange)
+    (not (acceptsFrame (s .«motor_id») f), FrameNotAccepted)
+    ∷ (isLate (s .clock) now, TimeOutOfRange)
     ∷ (isRead f && not (eqb (readStatus f) 0), ReadFailed (readId f) (readStatus f))
     ∷ (isRead f && full, ReadingsFull)
     ∷ []
@@ -150,8 +150,8 @@ frameSaid s f now full = firstOf (frameNumbers s f now full)
 
 -- refused other than by 14 or 15, nothing changes; 14 and 15 raise the count and leave what is held
 unfoldable pub stateAfter : Checked → State → CanFrame → ℕ → State
-stateAfter Passed s f now = told (counted s now) f
-stateAfter (Refused r) s f now = cond (among (numberOf r) (14 ∷ 15 ∷ [])) (counted s now) s
+stateAfter Passed s f now = toldBy (countedAt s now) f
+stateAfter (Refused r) s f now = cond (among (numberOf r) (14 ∷ 15 ∷ [])) (countedAt s now) s
 
 -- the new readings where a value was put
 unfoldable pub readingsAfter : {A : Type 0} → Checked → CanFrame → A → A → A
@@ -166,20 +166,20 @@ abbrev pub heardWith : State → Readings → Checked → Heard
 heardWith state readings said = record { motor = record { state = state; readings = readings }; said = said }
 
 -- the motor's answer, on any value
-unfoldable pub heardOf : Motor → CanFrame → ℕ → Heard
-heardOf m f now =
+unfoldable pub processFeedbackFrame : Motor → CanFrame → ℕ → Heard
+processFeedbackFrame m f now =
     let put = putOf (m .readings) (readId f) (readStored f) in
     let said = frameSaid (m .state) f now (isFull (put .said)) in
     heardWith (stateAfter said (m .state) f now) (readingsAfter said f (put .readings) (m .readings)) said
 
 -- ---- a frame that is no read reply: the state alone
 
-abbrev pub stateWithSaid : State → Checked → StateHeard
-stateWithSaid state said = record { state = state; said = said }
+abbrev pub stateHeard : State → Checked → StateHeard
+stateHeard state said = record { state = state; said = said }
 
 -- 13, 7
-unfoldable pub stateHeard : State → CanFrame → ℕ → StateHeard
-stateHeard s f now =
-    cond (accepts (s .«motor_id») f)
-    (cond (late (s .clock) now) (stateWithSaid s (Refused TimeOutOfRange)) (stateWithSaid (told (counted s now) f) Passed))
-    (stateWithSaid s (Refused FrameNotAccepted))
+unfoldable pub hearState : State → CanFrame → ℕ → StateHeard
+hearState s f now =
+    cond (acceptsFrame (s .«motor_id») f)
+    (cond (isLate (s .clock) now) (stateHeard s (Refused TimeOutOfRange)) (stateHeard (toldBy (countedAt s now) f) Passed))
+    (stateHeard s (Refused FrameNotAccepted))

@@ -59,39 +59,39 @@ reply payload now = frame 0x110001FD payload now
 -- ---- answers
 
 -- to a start or a step: what is said, the frame, the result's bytes; to a frame: accepted, or a number
-pub data Answer : Type 0 where
-  answered : Said → CanFrame → List ℕ → Answer
-  heard : Checked → Answer
+pub data Output : Type 0 where
+  answered : Said → CanFrame → List ℕ → Output
+  heard : Checked → Output
 
 -- a frame as it is sent
 abbrev pub sending : ℕ → List ℕ → CanFrame
 sending id payload = record { «arbitration_id» = id; «data» = payload; dlc = 8; «is_extended» = true; «is_rx» = false }
 
-abbrev pub sent : ℕ → ℕ → List ℕ → Answer
+abbrev pub sent : ℕ → ℕ → List ℕ → Output
 sent due id payload = answered (said.Sent due) (sending id payload) zeros
 
-abbrev pub waiting : ℕ → Answer
+abbrev pub waiting : ℕ → Output
 waiting due = answered (said.Waiting due) noFrame zeros
 
-abbrev pub finished : Outcome → Answer
+abbrev pub finished : Outcome → Output
 finished r = answered (said.Finished r) noFrame zeros
 
-abbrev pub finishedWith : Outcome → ℕ → List ℕ → Answer
+abbrev pub finishedWith : Outcome → ℕ → List ℕ → Output
 finishedWith r id payload = answered (said.FinishedWith r) (sending id payload) zeros
 
-abbrev pub refused : Refusal → Answer
+abbrev pub refused : Refusal → Output
 refused r = answered (said.Refused r) noFrame zeros
 
-abbrev pub passed : Answer
+abbrev pub passed : Output
 passed = heard checked.Passed
 
 -- ---- a run
 
-abbrev pub answerOf : LoneAnswered → Answer
+abbrev pub answerOf : LoneAnswered → Output
 answerOf a = answered (a .said) (a .frame) (a .result)
 
 -- the answers to inputs, in order
-unfoldable pub runs : Lone → List Input → List Answer
+unfoldable pub runs : Lone → List Input → List Output
 runs l [] = []
 runs l (start c now ∷ inputs) =
     let a = loneStart l c now in
@@ -113,7 +113,7 @@ after l (frame id payload now ∷ inputs) = after (hears l (received id payload)
 -- ---- a table: a run with its answers, or what is held then, and what it is to be
 
 pub data Row : Type 0 where
-  run : Lone → List Input → List Answer → Row
+  run : Lone → List Input → List Output → Row
   number : ℕ → ℕ → Row
   gains : Gains → Gains → Row
   fault : HeldFault → HeldFault → Row

@@ -7,14 +7,14 @@ use Rattle.codec.specs.declared.error.LastMode.the-variants as last
 use Rattle.codec.specs.declared.error.Refusal.the-variants as refusal
 use Rattle.codec.specs.declared.model.Model.the-variants.{Rs00}
 use Rattle.codec.specs.declared.registers.ControlMode.the-variants as mode
-use Rattle.codec.specs.Kinds.{among, listedIds, int8Ids, kindOf, infoOf}
+use Rattle.codec.specs.Kinds.{among, listedIds, int8Ids, kindOf, parameterInfo}
 use Rattle.codec.specs.Replies.{zeros}
 use Rattle.motor.specs.declared.engine.command.Command.the-variants as command
 use Rattle.motor.specs.declared.engine.command.Outcome.the-variants as outcome
-use Rattle.motor.specs.engine.Hosts.{candidatesOf}
+use Rattle.motor.specs.engine.Hosts.{hostCandidates}
 use Rattle.motor.specs.Lone.{hears}
-use Rattle.motor.specs.Receive.{accepts, late, counted, pingAfter, nextSequence, feedbackAfter, faultAfter, told, isRead, readStatus, readId, readStored, frameSaid, stateAfter, readingsAfter}
-use Rattle.motor.specs.Runs.{bytes, Input, Answer, start, step, fresh, status, reply, sent, waiting, finished, refused, passed, runs, Row, run, Holds}
+use Rattle.motor.specs.Receive.{acceptsFrame, isLate, countedAt, pingAfter, nextSequence, feedbackAfter, faultAfter, toldBy, isRead, readStatus, readId, readStored, frameSaid, stateAfter, readingsAfter}
+use Rattle.motor.specs.Runs.{bytes, Input, Output, start, step, fresh, status, reply, sent, waiting, finished, refused, passed, runs, Row, run, Holds}
 use Rattle.motor.specs.engine.Script.{isMode}
 
 -- the mode aimed at, and a time
@@ -22,10 +22,10 @@ abbrev pub ensured : ℕ → Input
 ensured now = start (command.EnsureControlMode mode.Velocity 0) now
 
 -- 7005 read, and velocity written to it, by host
-abbrev pub reads : ℕ → ℕ → Answer
+abbrev pub reads : ℕ → ℕ → Output
 reads due id = sent due id (bytes 5 0x70 0 0 0 0 0 0)
 
-abbrev pub writes : ℕ → ℕ → Answer
+abbrev pub writes : ℕ → ℕ → Output
 writes due id = sent due id (bytes 5 0x70 0 0 2 0 0 0)
 
 -- a reply that says this mode
@@ -202,5 +202,5 @@ modes =
     ∷ []
 
 pub modes-hold : Holds modes
-unfolding runs hears frameSaid stateAfter readingsAfter accepts late counted told pingAfter nextSequence feedbackAfter faultAfter isRead readStatus readId readStored among listedIds int8Ids kindOf infoOf candidatesOf isMode
+unfolding runs hears frameSaid stateAfter readingsAfter acceptsFrame isLate countedAt toldBy pingAfter nextSequence feedbackAfter faultAfter isRead readStatus readId readStored among listedIds int8Ids kindOf parameterInfo hostCandidates isMode
 modes-hold = (refl, (refl, (refl, (refl, (refl, (refl, (refl, tt)))))))

@@ -9,7 +9,7 @@ use Rattle.codec.specs.declared.error.Checked.the-variants as checked
 use Rattle.codec.specs.declared.error.Refusal.the-variants as refusal
 use Rattle.codec.specs.declared.model.Model.the-variants.{Rs00}
 use Rattle.codec.specs.declared.protocol.ParameterValue.the-variants as value
-use Rattle.codec.specs.Kinds.{among, listedIds, int8Ids, kindOf, infoOf}
+use Rattle.codec.specs.Kinds.{among, listedIds, int8Ids, kindOf, parameterInfo}
 use Rattle.codec.specs.Replies.{zeros}
 use Rattle.motor.specs.declared.engine.command.Command.the-variants as command
 use Rattle.motor.specs.declared.engine.command.Outcome.the-variants as outcome
@@ -18,7 +18,7 @@ use Rattle.motor.specs.declared.motor.HeldFault.the-variants as held-fau
 use Rattle.motor.specs.Calls.{newState, noPing}
 use Rattle.motor.specs.Lone.{Lone, hears, loneRemoval}
 use Rattle.motor.specs.Readings as chain
-use Rattle.motor.specs.Receive.{accepts, late, counted, pingAfter, nextSequence, feedbackAfter, faultAfter, told, isRead, readStatus, readId, readStored, frameSaid, stateAfter, readingsAfter, stateWith}
+use Rattle.motor.specs.Receive.{acceptsFrame, isLate, countedAt, pingAfter, nextSequence, feedbackAfter, faultAfter, toldBy, isRead, readStatus, readId, readStored, frameSaid, stateAfter, readingsAfter, stateWith}
 use Rattle.motor.specs.Runs.{bytes, held, start, step, frame, fresh, status, reply, heard, sent, waiting, finished, finishedWith, refused, passed, runs, after, Row, run, number, readings, removal, Holds}
 
 -- ---- start, step and removal
@@ -84,7 +84,7 @@ refusals =
     ∷ []
 
 pub refusals-hold : Holds refusals
-unfolding runs after hears frameSaid stateAfter readingsAfter accepts late counted told pingAfter nextSequence feedbackAfter faultAfter isRead readStatus readId readStored among listedIds int8Ids kindOf infoOf
+unfolding runs after hears frameSaid stateAfter readingsAfter acceptsFrame isLate countedAt toldBy pingAfter nextSequence feedbackAfter faultAfter isRead readStatus readId readStored among listedIds int8Ids kindOf parameterInfo
 refusals-hold = (refl, (refl, (refl, (refl, (refl, (refl, (refl, tt)))))))
 
 -- ---- frames
@@ -130,5 +130,5 @@ frames =
     ∷ []
 
 pub frames-hold : Holds frames
-unfolding runs after chain.run hears frameSaid stateAfter readingsAfter accepts late counted told pingAfter nextSequence feedbackAfter faultAfter isRead readStatus readId readStored among listedIds int8Ids kindOf infoOf
+unfolding runs after chain.run hears frameSaid stateAfter readingsAfter acceptsFrame isLate countedAt toldBy pingAfter nextSequence feedbackAfter faultAfter isRead readStatus readId readStored among listedIds int8Ids kindOf parameterInfo
 frames-hold = (refl, (refl, (refl, (refl, (refl, (refl, (refl, (refl, (refl, (refl, tt))))))))))

@@ -7,15 +7,15 @@ use lib.Ieee.{toUnsigned, mul, add, sub, div, neg, lt, ofInt, ofBits, toBits}
 use Rattle.codec.specs.declared.error.Refusal.the-variants as refusal
 use Rattle.codec.specs.declared.model.Model.the-variants.{Rs00}
 use Rattle.codec.specs.declared.registers.ControlMode.the-variants as mode
-use Rattle.codec.specs.Kinds.{among, listedIds, int8Ids, uint8Ids, uint16Ids, uint32Ids, kindOf, infoOf}
-use Rattle.codec.specs.Modes.{modeRead}
-use Rattle.codec.specs.Motion.{clamped, motionRaw, gainRaw}
+use Rattle.codec.specs.Kinds.{among, listedIds, int8Ids, uint8Ids, uint16Ids, uint32Ids, kindOf, parameterInfo}
+use Rattle.codec.specs.Modes.{controlModeFromRaw}
+use Rattle.codec.specs.Motion.{clamp, motionRaw, gainRaw}
 use Rattle.motor.specs.declared.engine.command.Command.{Command}
 use Rattle.motor.specs.declared.engine.command.Command.the-variants as command
 use Rattle.motor.specs.declared.engine.command.Outcome.the-variants as outcome
 use Rattle.motor.specs.declared.engine.operation.Gains.{Gains}
 use Rattle.motor.specs.Lone.{hears}
-use Rattle.motor.specs.Receive.{accepts, late, counted, pingAfter, nextSequence, feedbackAfter, faultAfter, told, isRead, readStatus, readId, readStored, frameSaid, stateAfter, readingsAfter}
+use Rattle.motor.specs.Receive.{acceptsFrame, isLate, countedAt, pingAfter, nextSequence, feedbackAfter, faultAfter, toldBy, isRead, readStatus, readId, readStored, frameSaid, stateAfter, readingsAfter}
 use Rattle.motor.specs.Runs.{word, bytes, Input, start, step, fresh, status, reply, sent, waiting, finished, finishedWith, refused, passed, runs, after, Row, run, gains, Holds}
 use Rattle.motor.specs.engine.Script.{stopGain}
 
@@ -60,7 +60,7 @@ written =
     ∷ []
 
 pub written-hold : Holds written
-unfolding runs hears frameSaid stateAfter readingsAfter accepts late counted told pingAfter nextSequence feedbackAfter faultAfter isRead readStatus readId readStored among listedIds int8Ids uint8Ids uint16Ids uint32Ids kindOf infoOf modeRead
+unfolding runs hears frameSaid stateAfter readingsAfter acceptsFrame isLate countedAt toldBy pingAfter nextSequence feedbackAfter faultAfter isRead readStatus readId readStored among listedIds int8Ids uint8Ids uint16Ids uint32Ids kindOf parameterInfo controlModeFromRaw
 written-hold = (refl, (refl, (refl, (refl, (refl, tt)))))
 
 -- ---- mode 0 sends the angle that it reads (4π) as a motion command
@@ -120,5 +120,5 @@ moved =
     ∷ []
 
 pub moved-hold : Holds moved
-unfolding runs after hears frameSaid stateAfter readingsAfter accepts late counted told pingAfter nextSequence feedbackAfter faultAfter isRead readStatus readId readStored among listedIds int8Ids uint8Ids uint16Ids uint32Ids kindOf infoOf modeRead stopGain motionRaw gainRaw clamped toUnsigned mul add sub div neg lt ofInt ofBits toBits
+unfolding runs after hears frameSaid stateAfter readingsAfter acceptsFrame isLate countedAt toldBy pingAfter nextSequence feedbackAfter faultAfter isRead readStatus readId readStored among listedIds int8Ids uint8Ids uint16Ids uint32Ids kindOf parameterInfo controlModeFromRaw stopGain motionRaw gainRaw clamp toUnsigned mul add sub div neg lt ofInt ofBits toBits
 moved-hold = (refl, (refl, (refl, (refl, (refl, (refl, (refl, (refl, tt))))))))

@@ -7,16 +7,16 @@ use Rattle.codec.specs.declared.error.Checked.the-variants as checked
 use Rattle.codec.specs.declared.error.Refusal.the-variants as refusal
 use Rattle.codec.specs.declared.model.Model.the-variants.{Rs00}
 use Rattle.codec.specs.declared.protocol.ParameterValue.the-variants as value
-use Rattle.codec.specs.Faults.{faultReport}
-use Rattle.codec.specs.Kinds.{among, listedIds, int8Ids, uint8Ids, kindOf, infoOf}
+use Rattle.codec.specs.Faults.{decodeFaultReport}
+use Rattle.codec.specs.Kinds.{among, listedIds, int8Ids, uint8Ids, kindOf, parameterInfo}
 use Rattle.codec.specs.Replies.{zeros}
 use Rattle.motor.specs.declared.engine.command.Command.the-variants as command
 use Rattle.motor.specs.declared.engine.command.Outcome.the-variants as outcome
 use Rattle.motor.specs.declared.engine.command.Said.the-variants as said
 use Rattle.motor.specs.declared.motor.HeldFault.the-variants as held-fault
-use Rattle.motor.specs.engine.Hosts.{candidatesOf}
+use Rattle.motor.specs.engine.Hosts.{hostCandidates}
 use Rattle.motor.specs.Lone.{hears}
-use Rattle.motor.specs.Receive.{accepts, late, counted, pingAfter, nextSequence, feedbackAfter, faultAfter, told, isRead, readStatus, readId, readStored, frameSaid, stateAfter, readingsAfter}
+use Rattle.motor.specs.Receive.{acceptsFrame, isLate, countedAt, pingAfter, nextSequence, feedbackAfter, faultAfter, toldBy, isRead, readStatus, readId, readStored, frameSaid, stateAfter, readingsAfter}
 use Rattle.motor.specs.engine.Requests.{noFrame}
 use Rattle.motor.specs.Runs.{bytes, held, start, step, frame, fresh, status, reply, answered, heard, sent, waiting, finished, finishedWith, refused, passed, runs, after, Row, run, readings, fault, Holds}
 
@@ -66,7 +66,7 @@ acknowledgements =
     (sent 340 0x0400FD01 (bytes 1 0 0 0 0 0 0 0) ∷ passed ∷ finished outcome.Done ∷ [])
     -- it drops the fault report once acknowledged
     ∷ fault (after (fresh 0xFD Rs00 0) (frame 0x150001FD zeros 100 ∷ start command.ClearError 120 ∷ status 140 ∷ []) .state .«fault_report»)
-    (held-fault.Report (faultReport zeros))
+    (held-fault.Report (decodeFaultReport zeros))
     ∷ fault (after (fresh 0xFD Rs00 0) (frame 0x150001FD zeros 100 ∷ start command.ClearError 120 ∷ status 140 ∷ step 140 ∷ []) .state .«fault_report»)
     held-fault.Nothing
     -- set_active_report, with finished from the call
@@ -75,7 +75,7 @@ acknowledgements =
     ∷ []
 
 pub acknowledgements-hold : Holds acknowledgements
-unfolding runs after hears frameSaid stateAfter readingsAfter accepts late counted told pingAfter nextSequence feedbackAfter faultAfter isRead readStatus readId readStored among listedIds int8Ids uint8Ids kindOf infoOf candidatesOf
+unfolding runs after hears frameSaid stateAfter readingsAfter acceptsFrame isLate countedAt toldBy pingAfter nextSequence feedbackAfter faultAfter isRead readStatus readId readStored among listedIds int8Ids uint8Ids kindOf parameterInfo hostCandidates
 acknowledgements-hold = (refl, (refl, (refl, (refl, (refl, (refl, (refl, (refl, (refl, (refl, (refl, (refl, (refl, (refl, (refl, tt)))))))))))))))
 
 -- ---- reads and pings
@@ -129,5 +129,5 @@ values =
     ∷ []
 
 pub values-hold : Holds values
-unfolding runs after hears frameSaid stateAfter readingsAfter accepts late counted told pingAfter nextSequence feedbackAfter faultAfter isRead readStatus readId readStored among listedIds int8Ids uint8Ids kindOf infoOf candidatesOf
+unfolding runs after hears frameSaid stateAfter readingsAfter acceptsFrame isLate countedAt toldBy pingAfter nextSequence feedbackAfter faultAfter isRead readStatus readId readStored among listedIds int8Ids uint8Ids kindOf parameterInfo hostCandidates
 values-hold = (refl, (refl, (refl, (refl, (refl, (refl, (refl, (refl, (refl, (refl, (refl, (refl, (refl, (refl, (refl, (refl, tt))))))))))))))))

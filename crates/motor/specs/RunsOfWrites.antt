@@ -5,13 +5,13 @@ use Rattle.codec.specs.declared.error.Refusal.the-variants as refusal
 use Rattle.codec.specs.declared.model.Model.the-variants.{Rs00}
 use Rattle.codec.specs.declared.protocol.ParameterValue.the-variants as value
 use Rattle.codec.specs.declared.registers.ControlMode.the-variants as mode
-use Rattle.codec.specs.Kinds.{among, listedIds, int8Ids, uint8Ids, uint16Ids, uint32Ids, kindOf, infoOf}
+use Rattle.codec.specs.Kinds.{among, listedIds, int8Ids, uint8Ids, uint16Ids, uint32Ids, kindOf, parameterInfo}
 use Rattle.codec.specs.Replies.{zeros}
 use Rattle.motor.specs.declared.engine.command.Command.the-variants as command
 use Rattle.motor.specs.declared.engine.command.Outcome.the-variants as outcome
-use Rattle.motor.specs.engine.Hosts.{candidatesOf}
+use Rattle.motor.specs.engine.Hosts.{hostCandidates}
 use Rattle.motor.specs.Lone.{hears}
-use Rattle.motor.specs.Receive.{accepts, late, counted, pingAfter, nextSequence, feedbackAfter, faultAfter, told, isRead, readStatus, readId, readStored, frameSaid, stateAfter, readingsAfter}
+use Rattle.motor.specs.Receive.{acceptsFrame, isLate, countedAt, pingAfter, nextSequence, feedbackAfter, faultAfter, toldBy, isRead, readStatus, readId, readStored, frameSaid, stateAfter, readingsAfter}
 use Rattle.motor.specs.Runs.{word, bytes, start, step, fresh, status, sent, finished, finishedWith, refused, passed, runs, Row, run, Holds}
 use Rattle.motor.specs.engine.Script.{absOf}
 
@@ -36,7 +36,7 @@ writes =
     ∷ []
 
 pub writes-hold : Holds writes
-unfolding runs hears frameSaid stateAfter readingsAfter accepts late counted told pingAfter nextSequence feedbackAfter faultAfter isRead readStatus readId readStored among listedIds int8Ids uint8Ids uint16Ids uint32Ids kindOf infoOf candidatesOf
+unfolding runs hears frameSaid stateAfter readingsAfter acceptsFrame isLate countedAt toldBy pingAfter nextSequence feedbackAfter faultAfter isRead readStatus readId readStored among listedIds int8Ids uint8Ids uint16Ids uint32Ids kindOf parameterInfo hostCandidates
 writes-hold = (refl, (refl, (refl, (refl, tt))))
 
 abbrev pub positions : List Row
@@ -127,5 +127,5 @@ positions =
     ∷ []
 
 pub positions-hold : Holds positions
-unfolding runs hears frameSaid stateAfter readingsAfter accepts late counted told pingAfter nextSequence feedbackAfter faultAfter isRead readStatus readId readStored among listedIds int8Ids uint8Ids uint16Ids uint32Ids kindOf infoOf candidatesOf absOf
+unfolding runs hears frameSaid stateAfter readingsAfter acceptsFrame isLate countedAt toldBy pingAfter nextSequence feedbackAfter faultAfter isRead readStatus readId readStored among listedIds int8Ids uint8Ids uint16Ids uint32Ids kindOf parameterInfo hostCandidates absOf
 positions-hold = (refl, (refl, (refl, (refl, (refl, (refl, (refl, (refl, tt))))))))

@@ -7,7 +7,7 @@ use codec::protocol::ParameterValue;
 use codec::protocol::encode_parameter_value;
 use codec::protocol::validate_protocol_cmd;
 ghost use mathlib.Core.Path.{_≡_};
-ghost use Rattle.codec.specs.Values.{encodedValue};
+ghost use Rattle.codec.specs.Values.{encodeParameterValue};
 ghost use Rattle.motor.specs.Calls.{timeoutOf, hostChecked, newIdChecked, encodes, arguedOf};
 
 // The timeout that a call gives, 0 where it gives none.
@@ -52,7 +52,7 @@ fn new_id_checked(new_id: u8) -> Checked
 
 // 10 and 11: what the encoder says of a value.
 fn value_checked(param_id: u16, value: ParameterValue) -> Checked
-    ensures { λ r. ⌜ r ≡ encodes (encodedValue «param_id» value) ⌝ }
+    ensures { λ r. ⌜ r ≡ encodes (encodeParameterValue «param_id» value) ⌝ }
 {
     match encode_parameter_value(param_id, value) {
         EncodedValue::Raw(_) => Checked::Passed,

@@ -19,7 +19,7 @@ use codec::error::Refusal;
 ghost use mathlib.Core.Path.{_≡_};
 ghost use Prim.Native.Nat.{_≤_, _<_};
 ghost use Rattle.motor.specs.Limits.{mostReadings, mostRecords};
-ghost use Rattle.motor.specs.Edits.{noEdit, addEdit, putEdit, readKept, readHeard};
+ghost use Rattle.motor.specs.Edits.{noEdit, addEdit, putEdit, readKept, hearRead};
 
 // What is to be stored of the readings: record `first` is `one`; then record `second` goes on to `link`; `free` is the first free record.
 pub struct Edit {
@@ -140,7 +140,7 @@ fn read_kept(state: State, rs: Readings, said: Checked) -> ReadHeard
 
 // A read reply: 13 and 7 change nothing; else it is counted, 14 and 15 store nothing, and a value is put.
 pub fn hear_read(m: Motor, frame: CanFrame, now: u64) -> ReadHeard
-    ensures { λ r. ⌜ (r ≡ readHeard m frame now) × (r .edit .first < mostRecords) × (r .edit .second < mostRecords) ⌝ }
+    ensures { λ r. ⌜ (r ≡ hearRead m frame now) × (r .edit .first < mostRecords) × (r .edit .second < mostRecords) ⌝ }
 {
     let s = m.state;
     let rs = m.readings;

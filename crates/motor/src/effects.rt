@@ -12,8 +12,8 @@ use crate::readings::Readings;
 use crate::readings::drop_id;
 use codec::replies::PingReply;
 ghost use mathlib.Core.Path.{_≡_};
-ghost use Rattle.motor.specs.Calls.{noPing, sightOf, gainsBy, faultBy, pingBy, readingsBy, commandIn, movedBy};
-ghost use Rattle.motor.specs.Readings.{dropOf};
+ghost use Rattle.motor.specs.Calls.{noPing, sightOf, gainsBy, faultBy, pingBy, readingsBy, commandIn, stateBy};
+ghost use Rattle.motor.specs.Readings.{dropId};
 
 // No ping reply.
 pub(crate) fn no_ping() -> HeldPing
@@ -86,7 +86,7 @@ pub(crate) fn ping_by(effect: Effect, held: HeldPing) -> HeldPing
 }
 
 pub(crate) fn readings_by(effect: Effect, held: Readings) -> Readings
-    ensures { λ r. ⌜ r ≡ readingsBy effect (λ id. dropOf held id) held ⌝ }
+    ensures { λ r. ⌜ r ≡ readingsBy effect (λ id. dropId held id) held ⌝ }
 {
     match effect {
         Effect::Nothing => held,
@@ -116,7 +116,7 @@ pub(crate) fn state_by(
     operation: Operation,
     effect: Effect,
 ) -> State
-    ensures { λ r. ⌜ r ≡ movedBy state now command operation effect ⌝ }
+    ensures { λ r. ⌜ r ≡ stateBy state now command operation effect ⌝ }
 {
     let model = state.model;
     let feedback = state.feedback;

@@ -5,7 +5,7 @@ use codec::model::limits_of;
 use codec::protocol::ext_id_parts;
 use codec::status::decode_status_frame;
 ghost use mathlib.Core.Path.{_≡_};
-ghost use Rattle.motor.specs.Receive.{feedbackIn, nextSequence, updated};
+ghost use Rattle.motor.specs.Receive.{feedbackIn, nextSequence, update};
 
 // A state, as a status frame tells it, with the whole id of its frame.
 pub struct MotorFeedbackState {
@@ -72,7 +72,7 @@ fn next_sequence(n: u64) -> u64
 
 // A new state, and the next sequence.
 pub(crate) fn update(cache: FeedbackCache, state: MotorFeedbackState) -> FeedbackCache
-    ensures { λ r. ⌜ r ≡ updated cache state ⌝ }
+    ensures { λ r. ⌜ r ≡ update cache state ⌝ }
 {
     FeedbackCache {
         latest: Latest::State(state),

@@ -37,9 +37,9 @@ use codec::word::Word;
 ghost use mathlib.Core.Path.{_≡_};
 ghost use mathlib.Core.List.{List, []};
 ghost use Rattle.motor.specs.declared.engine.command.Said.the-variants as said;
-ghost use Rattle.motor.specs.Calls.{isIdle, admittedOf, startSaid, stepSaid, newState, wanted, wantedBy};
+ghost use Rattle.motor.specs.Calls.{isIdle, startAdmitted, startSaid, stepSaid, newState, wanted, wantedBy};
 ghost use Rattle.motor.specs.Lone.{loneStart, loneStep, loneLook};
-ghost use Rattle.motor.specs.Motors.{newMotor, refusedOf, movedOf, startOf, stepOf, lookOf, removalOf, loneOf, AnsweredAs};
+ghost use Rattle.motor.specs.Motors.{newMotor, refusedOf, movedBy, startOf, stepOf, lookOf, removalOf, loneOf, AnsweredAs};
 ghost use Rattle.motor.specs.Readings.{Holds, findOf};
 
 pub enum HeldFault {
@@ -124,7 +124,7 @@ pub fn new(motor_id: u16, feedback_id: u16, model: Model, write_wait: u64, now: 
 
 // The move is made, and the clock takes its time.
 fn moved_by(m: Motor, now: u64, command: Command, made: Move) -> Answered
-    ensures { λ r. ⌜ r ≡ movedOf m now command made ⌝ }
+    ensures { λ r. ⌜ r ≡ movedBy m now command made ⌝ }
 {
     let state = m.state;
     let readings = m.readings;
@@ -171,7 +171,7 @@ fn is_idle(phase: Phase) -> bool
 
 // 7, 8, 9.
 fn start_admitted(clock: u64, phase: Phase, command: Command, now: u64) -> Checked
-    ensures { λ r. ⌜ r ≡ admittedOf clock phase command now ⌝ }
+    ensures { λ r. ⌜ r ≡ startAdmitted clock phase command now ⌝ }
 {
     if is_late(clock, now) {
         return Checked::Refused(Refusal::TimeOutOfRange);

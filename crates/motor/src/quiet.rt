@@ -8,7 +8,7 @@ use codec::bus::CanFrame;
 use codec::error::Checked;
 use codec::error::Refusal;
 ghost use mathlib.Core.Path.{_≡_};
-ghost use Rattle.motor.specs.Receive.{stateWithSaid, stateHeard};
+ghost use Rattle.motor.specs.Receive.{stateHeard, hearState};
 
 // What such a frame answers, and the state after it.
 pub struct StateHeard {
@@ -17,14 +17,14 @@ pub struct StateHeard {
 }
 
 fn state_heard(state: State, said: Checked) -> StateHeard
-    ensures { λ r. ⌜ r ≡ stateWithSaid state said ⌝ }
+    ensures { λ r. ⌜ r ≡ stateHeard state said ⌝ }
 {
     StateHeard { state, said }
 }
 
 // 13 and 7 leave the state as it was; else the frame is counted, and held by its type.
 pub fn hear_state(s: State, frame: CanFrame, now: u64) -> StateHeard
-    ensures { λ r. ⌜ r ≡ stateHeard s frame now ⌝ }
+    ensures { λ r. ⌜ r ≡ hearState s frame now ⌝ }
 {
     if !accepts_frame(s.motor_id, frame) {
         return state_heard(s, Checked::Refused(Refusal::FrameNotAccepted));

@@ -9,7 +9,7 @@ ghost use mathlib.Core.Path.{_≡_};
 ghost use mathlib.Core.List.{List};
 ghost use Prim.Native.Nat.{_≤_, _<_};
 ghost use Rattle.motor.specs.Limits.{mostReadings, mostRecords};
-ghost use Rattle.motor.specs.Readings.{Lists, Rep, Holds, Puts, atFirst, lookup, dropIn, listing, noStored, freeRecord, withNext, seekFrom, holderAt, addAt, emptyReadings, findOf, putOf, dropOf, listingOf};
+ghost use Rattle.motor.specs.Readings.{Lists, Rep, Holds, Puts, atFirst, lookup, dropIn, listing, blankStored, freeRecord, withNext, seekFrom, holderAt, addAt, emptyReadings, findOf, putOf, dropId, listedOf};
 
 // A record. The next of the last one is 0.
 pub struct Reading {
@@ -48,7 +48,7 @@ pub struct Listing {
 
 // What a record that holds nothing keeps.
 fn blank() -> Stored
-    ensures { λ r. ⌜ r ≡ noStored ⌝ }
+    ensures { λ r. ⌜ r ≡ blankStored ⌝ }
 {
     let value = ParameterValue::I8(0);
     Stored { value }
@@ -211,7 +211,7 @@ pub fn put(rs: Readings, id: u16, held: Stored) -> PutResult
 
 // Holds id no longer: its record is blank, and the first free one.
 pub fn drop_id(rs: Readings, id: u16) -> Readings
-    ensures is { λ r. ⌜ r ≡ dropOf rs id ⌝ }
+    ensures is { λ r. ⌜ r ≡ dropId rs id ⌝ }
     ensures means { λ r. ⌜ ((ls : Lists) → Rep rs ls → Rep r (dropIn id ls)) ⌝ }
 {
     let p = seek(rs, id);
@@ -231,7 +231,7 @@ pub fn drop_id(rs: Readings, id: u16) -> Readings
 
 // Everything held, along the chain.
 pub fn listed(rs: Readings) -> Listing
-    ensures is { λ r. ⌜ r ≡ listingOf rs ⌝ }
+    ensures is { λ r. ⌜ r ≡ listedOf rs ⌝ }
     ensures means { λ r. ⌜ ((l : List Entry) → Holds rs l → r ≡ listing l) ⌝ }
 {
     let held = blank();

@@ -27,7 +27,7 @@ ghost use mathlib.Core.Bool.{true, false, _||_};
 ghost use mathlib.Core.List.{List, [], _∷_};
 ghost use lib.Dec.{eqb};
 ghost use Rattle.codec.specs.Kinds.{among};
-ghost use Rattle.motor.specs.Receive.{frameType, frameExtra, accepts, late, counted, pingAfter, feedbackAfter, faultAfter, told, isRead, readStatus, readId, readStored, heardWith, heardOf};
+ghost use Rattle.motor.specs.Receive.{frameType, frameExtra, acceptsFrame, isLate, countedAt, pingAfter, feedbackAfter, faultAfter, toldBy, isRead, readStatus, readId, readStored, heardWith, processFeedbackFrame};
 ghost use Rattle.motor.specs.Readings.{Holds};
 ghost use Rattle.motor.specs.Lone.{hears};
 ghost use Rattle.motor.specs.Motors.{HeardAs, loneOf};
@@ -40,14 +40,14 @@ pub struct Heard {
 
 // ---- the id's parts
 
-fn type_of(frame: CanFrame) -> u32
+fn frame_type(frame: CanFrame) -> u32
     ensures { λ r. ⌜ r ≡ frameType frame ⌝ }
 {
     let parts = ext_id_parts(frame.arbitration_id);
     parts.comm_type
 }
 
-fn extra_of(frame: CanFrame) -> u16
+fn frame_extra(frame: CanFrame) -> u16
     ensures { λ r. ⌜ r ≡ frameExtra frame ⌝ }
 {
     let parts = ext_id_parts(frame.arbitration_id);
@@ -83,20 +83,20 @@ fn accepts_type(comm_type: u32) -> bool
 
 // Whether a frame is for the motor of this id: extended, of an accepted type, the id in the extra field's low byte.
 pub fn accepts_frame(motor_id: u16, frame: CanFrame) -> bool
-    ensures { λ r. ⌜ r ≡ accepts «motor_id» frame ⌝ }
+    ensures { λ r. ⌜ r ≡ acceptsFrame «motor_id» frame ⌝ }
 {
     if !frame.is_extended {
         return false;
     }
-    if !accepts_type(type_of(frame)) {
+    if !accepts_type(frame_type(frame)) {
         return false;
     }
-    extra_of(frame) % 256 == motor_id
+    frame_extra(frame) % 256 == motor_id
 }
 
 // 7: a time below the clock, or above 10^15.
 pub(crate) fn is_late(clock: u64, now: u64) -> bool
-    ensures { λ r. ⌜ r ≡ late clock now ⌝ }
+    ensures { λ r. ⌜ r ≡ isLate clock now ⌝ }
 {
     if now < clock {
         return true;
@@ -110,7 +110,7 @@ pub(crate) fn is_late(clock: u64, now: u64) -> bool
 fn ping_after(old: HeldPing, frame: CanFrame) -> HeldPing
     ensures { λ r. ⌜ r ≡ pingAfter old frame ⌝ }
 {
-    if type_of(frame) != CommunicationType::GET_DEVICE_ID {
+    if frame_type(frame) != CommunicationType::GET_DEVICE_ID {
         return old;
     }
     let data = frame.data;
@@ -133,7 +133,7 @@ fn tells_status(comm_type: u32) -> bool
 fn feedback_after(old: FeedbackCache, model: Model, frame: CanFrame) -> FeedbackCache
     ensures { λ r. ⌜ r ≡ feedbackAfter old model frame ⌝ }
 {
-    if !tells_status(type_of(frame)) {
+    if !tells_status(frame_type(frame)) {
         return old;
     }
     update(old, feedback_in(model, frame))
@@ -143,7 +143,7 @@ fn feedback_after(old: FeedbackCache, model: Model, frame: CanFrame) -> Feedback
 fn fault_after(old: HeldFault, frame: CanFrame) -> HeldFault
     ensures { λ r. ⌜ r ≡ faultAfter old frame ⌝ }
 {
-    if type_of(frame) != CommunicationType::FAULT_REPORT {
+    if frame_type(frame) != CommunicationType::FAULT_REPORT {
         return old;
     }
     let data = frame.data;
@@ -152,7 +152,7 @@ fn fault_after(old: HeldFault, frame: CanFrame) -> HeldFault
 
 // The state after what a frame tells.
 pub(crate) fn told_by(s: State, frame: CanFrame) -> State
-    ensures { λ r. ⌜ r ≡ told s frame ⌝ }
+    ensures { λ r. ⌜ r ≡ toldBy s frame ⌝ }
 {
     let model = s.model;
     let feedback = feedback_after(s.feedback, model, frame);
@@ -180,7 +180,7 @@ pub(crate) fn told_by(s: State, frame: CanFrame) -> State
 
 // The frame's time, and one response more.
 pub(crate) fn counted_at(s: State, now: u64) -> State
-    ensures { λ r. ⌜ r ≡ counted s now ⌝ }
+    ensures { λ r. ⌜ r ≡ countedAt s now ⌝ }
 {
     let mut out = s;
     out.clock = now;
@@ -193,14 +193,14 @@ pub(crate) fn counted_at(s: State, now: u64) -> State
 pub fn is_read(frame: CanFrame) -> bool
     ensures { λ r. ⌜ r ≡ isRead frame ⌝ }
 {
-    type_of(frame) == CommunicationType::READ_PARAMETER
+    frame_type(frame) == CommunicationType::READ_PARAMETER
 }
 
 // The status of a read reply: the extra field's high byte.
 pub(crate) fn read_status(frame: CanFrame) -> u8
     ensures { λ r. ⌜ r ≡ readStatus frame ⌝ }
 {
-    (extra_of(frame) >> 8) as u8
+    (frame_extra(frame) >> 8) as u8
 }
 
 // Two bytes as a number, the lower first.
@@ -247,8 +247,8 @@ fn read_failed(state: State, readings: Readings, id: u16, status: u8) -> Heard
 
 // An accepted read reply: 14 if the read failed, else its value is put, 15 if there is no room.
 fn read_heard(m: Motor, frame: CanFrame, now: u64) -> Heard
-    requires { ⌜ (accepts (m .state .«motor_id») frame ≡ true) × (late (m .state .clock) now ≡ false) × (isRead frame ≡ true) ⌝ }
-    ensures { λ r. ⌜ r ≡ heardOf m frame now ⌝ }
+    requires { ⌜ (acceptsFrame (m .state .«motor_id») frame ≡ true) × (isLate (m .state .clock) now ≡ false) × (isRead frame ≡ true) ⌝ }
+    ensures { λ r. ⌜ r ≡ processFeedbackFrame m frame now ⌝ }
 {
     let s = m.state;
     let old = m.readings;
@@ -269,7 +269,7 @@ fn read_heard(m: Motor, frame: CanFrame, now: u64) -> Heard
 
 // A frame at a time: 13 and 7 leave the motor as it was; else it is counted, and held by its type.
 pub fn process_feedback_frame(m: Motor, frame: CanFrame, now: u64) -> Heard
-    ensures is { λ r. ⌜ r ≡ heardOf m frame now ⌝ }
+    ensures is { λ r. ⌜ r ≡ processFeedbackFrame m frame now ⌝ }
     ensures means { λ r. ⌜ ((l : List Entry) → Holds (m .readings) l → HeardAs r (hears (loneOf m l) frame now)) ⌝ }
 {
     let s = m.state;

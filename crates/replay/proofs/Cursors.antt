@@ -5,16 +5,16 @@ use mathlib.Core.Bool.{Bool, true, false, cond}
 use mathlib.Core.List.{List}
 use lib.Dec.{ltb}
 use Rattle.replay.specs.declared.cursor.Cursor.{Cursor}
-use Rattle.replay.specs.Turns.{endFrom, cursorFrom}
+use Rattle.replay.specs.Turns.{lineEnd, cursorFrom}
 
 module _ (inp : List ℕ) (n from place left : ℕ) (good : Bool) where
   good-stays : cursorFrom inp n from place left good .good ≡ good
   unfolding cursorFrom
-  good-stays = go (ltb (endFrom inp from n) n) (ltb (n - endFrom inp from n) left)
+  good-stays = go (ltb (lineEnd inp from n) n) (ltb (n - lineEnd inp from n) left)
     where
       go : (a b : Bool)
-          → let none : Cursor = record { from = from; «end» = endFrom inp from n; «at» = place; left = 0; more = false; good = good } in
-          let one : Cursor = record { from = from; «end» = endFrom inp from n; «at» = place; left = n - endFrom inp from n; more = true; good = good } in
+          → let none : Cursor = record { from = from; «end» = lineEnd inp from n; «at» = place; left = 0; more = false; good = good } in
+          let one : Cursor = record { from = from; «end» = lineEnd inp from n; «at» = place; left = n - lineEnd inp from n; more = true; good = good } in
           cond a (cond b one none) none .good ≡ good
       go true true = refl
       go true false = refl

@@ -6,7 +6,7 @@ use native.Mathlib.Omega.{arith}
 use Rattle.session.specs.declared.event.Reason.the-variants as reason
 use Rattle.session.specs.Limits.{longestLine}
 use Rattle.text.specs.Ascii.{ascii}
-use Rattle.text.specs.Put.{glyphOf, decimalIn, decimalOf}
+use Rattle.text.specs.Put.{glyphOf, decimalIn, decimalText}
 use Rattle.replay.specs.Limits.{bufferSize, outputRoom, longestAnswer, keptBytes}
 use Rattle.replay.specs.Reasons.{reasonText}
 
@@ -19,6 +19,6 @@ kept-is-too-long = omega arith
 pub kept-fits : keptBytes ≤ bufferSize
 kept-fits = omega arith
 
-pub reason-says : reasonText reason.LineTooLong ≡ ascii "a line has at most " ++ decimalOf longestLine ++ ascii " bytes"
+pub reason-says : reasonText reason.LineTooLong ≡ ascii "a line has at most " ++ decimalText longestLine ++ ascii " bytes"
 unfolding reasonText glyphOf decimalIn
 reason-says = refl

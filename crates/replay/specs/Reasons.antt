@@ -6,7 +6,7 @@ use lib.Dec.{eqb}
 use Rattle.session.specs.declared.event.Reason.{Reason}
 use Rattle.session.specs.declared.event.Reason.the-variants as reason
 use Rattle.text.specs.Ascii.{ascii}
-use Rattle.text.specs.Put.{decimalOf}
+use Rattle.text.specs.Put.{decimalText}
 use Rattle.text.specs.Words.{partAt}
 
 -- what a letter of a shape asks for
@@ -23,10 +23,10 @@ wantedText letter =
     (cond (eqb letter 0x58) (ascii "a word") (ascii "a number below 2^64, in decimal or after 0x")))))))))
 
 abbrev pub countText : ℕ → List ℕ
-countText n = ascii "this event has " ++ decimalOf n ++ ascii " words, parted by single spaces"
+countText n = ascii "this event has " ++ decimalText n ++ ascii " words, parted by single spaces"
 
 abbrev pub badWordText : ℕ → ℕ → List ℕ
-badWordText n letter = ascii "word " ++ decimalOf n ++ ascii " isn't " ++ wantedText letter
+badWordText n letter = ascii "word " ++ decimalText n ++ ascii " isn't " ++ wantedText letter
 
 -- the place of a reason that carries nothing among their texts, and 11 for any other
 unfoldable pub reasonPlace : Reason → ℕ

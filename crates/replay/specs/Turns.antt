@@ -13,13 +13,13 @@ unfoldable pub lineAt : List ℕ → ℕ → ℕ → List ℕ
 lineAt inp from end = cond (leb from end) (cond (leb end (length inp)) (take (end - from) (drop from inp)) []) []
 
 -- where a line that begins at a place ends: its LF below n, else n
-unfoldable pub endFrom : List ℕ → ℕ → ℕ → ℕ
-endFrom inp from n = cond (leb n (length inp)) (cond (leb from n) (from + indexOf 10 (slice from n inp)) n) n
+unfoldable pub lineEnd : List ℕ → ℕ → ℕ → ℕ
+lineEnd inp from n = cond (leb n (length inp)) (cond (leb from n) (from + indexOf 10 (slice from n inp)) n) n
 
 -- the cursor of the line that begins at a place. There is one where its LF stands below n, and what is left of the n bytes falls
 unfoldable pub cursorFrom : List ℕ → ℕ → ℕ → ℕ → ℕ → Bool → Cursor
 cursorFrom inp n from place left good =
-    let end = endFrom inp from n in
+    let end = lineEnd inp from n in
     let none : Cursor = record { from = from; «end» = end; «at» = place; left = 0; more = false; good = good } in
     let one : Cursor = record { from = from; «end» = end; «at» = place; left = n - end; more = true; good = good } in
     cond (ltb end n) (cond (ltb (n - end) left) one none) none

@@ -31,7 +31,7 @@ pub(crate) fn line_in<'a>(inp: &'a [u8], c: Cursor) -> &'a [u8]
 
 // The index of the first LF at or after `from` and below n, or n.
 fn line_end(inp: &[u8], from: usize, n: usize) -> usize
-    ensures { λ r. ⌜ r ≡ turn.endFrom (now (inp .entry)) from n ⌝ }
+    ensures { λ r. ⌜ r ≡ turn.lineEnd (now (inp .entry)) from n ⌝ }
 {
     if n <= inp.len() {
         if from <= n {

@@ -10,7 +10,7 @@ use borrow.Author.Tests.{lt-ltb, le-ltb}
 use Rattle.bytes.specs.Bytes.{indexOf, slice}
 use Rattle.text.specs.declared.numbers.Num.{Num}
 use Rattle.text.specs.declared.numbers.Num.the-variants.{Value, Bad}
-use Rattle.text.specs.Numbers.{inBase}
+use Rattle.text.specs.Numbers.{digitsIn}
 use Rattle.text.specs.Words.{wordAt}
 use Rattle.session.specs.Arguments.{argumentOf, readOn}
 use Rattle.session.specs.Heard.{shiftedBy, millisecondsOf}
@@ -63,8 +63,8 @@ within ms s f h = let p : s * 1000 ≤ 18446744073709551615 - ms = le-div-iff-mu
 
 -- the parts on both sides of the point, which stands at n - 8
 pub parts : (w : List ℕ) (n : ℕ) → 10 ≤ n
-    → millisecondsOf (inBase 10 (take (n - 8 - 1) (drop 1 w))) (inBase 10 (take (n - 1 - (n - 8 + 1)) (drop (n - 8 + 1) w)))
-    ≡ millisecondsOf (inBase 10 (take (n - 9) (drop 1 w))) (inBase 10 (take 6 (drop (n - 7) w)))
+    → millisecondsOf (digitsIn 10 (take (n - 8 - 1) (drop 1 w))) (digitsIn 10 (take (n - 1 - (n - 8 + 1)) (drop (n - 8 + 1) w)))
+    ≡ millisecondsOf (digitsIn 10 (take (n - 9) (drop 1 w))) (digitsIn 10 (take 6 (drop (n - 7) w)))
 parts w n h =
     let a : n - 8 - 1 ≡ n - 9 = omega arith in
     let b : n - 8 + 1 ≡ n - 7 = omega arith in

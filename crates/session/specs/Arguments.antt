@@ -6,8 +6,8 @@ use lib.Dec.{eqb, ltb, leb}
 use lib.ListN.{length, getD, set}
 use Rattle.text.specs.declared.numbers.Num.{Num}
 use Rattle.text.specs.declared.numbers.Num.the-variants.{Value, Bad}
-use Rattle.text.specs.Numbers.{pick, inBase, numberOf}
-use Rattle.text.specs.Words.{wordsIn, wordAt, whichOf}
+use Rattle.text.specs.Numbers.{pick, digitsIn, numberIn}
+use Rattle.text.specs.Words.{wordCount, wordAt, whichOf}
 use Rattle.session.specs.declared.arguments.Args.{Args}
 use Rattle.session.specs.declared.arguments.Fitting.{Fitting}
 use Rattle.session.specs.declared.arguments.Fitting.the-variants as fit
@@ -35,11 +35,11 @@ oneOf k n = pick (ltb k n) (Value k) Bad
 
 -- the place of a word among names
 abbrev pub namedIn : List ℕ → List ℕ → Num
-namedIn names w = oneOf (whichOf names (wordsIn names) w) (wordsIn names)
+namedIn names w = oneOf (whichOf names (wordCount names) w) (wordCount names)
 
 -- sixteen hexadecimal digits
 abbrev pub payloadIn : List ℕ → Num
-payloadIn w = pick (eqb (length w) 16) (inBase 16 w) Bad
+payloadIn w = pick (eqb (length w) 16) (digitsIn 16 w) Bad
 
 -- any word
 abbrev pub anyIn : List ℕ → Num
@@ -50,7 +50,7 @@ unfoldable pub argumentOf : List ℕ → ℕ → Num
 argumentOf w letter =
     pick (eqb letter 0x43) (namedIn modes w)
     (pick (eqb letter 0x4B) (namedIn kinds w)
-    (pick (eqb letter 0x44) (payloadIn w) (pick (eqb letter 0x58) (anyIn w) (bounded (numberOf w) letter))))
+    (pick (eqb letter 0x44) (payloadIn w) (pick (eqb letter 0x58) (anyIn w) (bounded (numberIn w) letter))))
 
 abbrev pub onNumber : Num → Args → (ℕ → Args) → Args
 onNumber (Value x) stop go = go x
@@ -69,8 +69,8 @@ orArgs true a b = a
 orArgs false a b = b
 
 -- the words after the first, one for each letter of the shape, of which there are eight at most
-abbrev pub argsOf : List ℕ → List ℕ → Args
-argsOf line shape = orArgs (ltb 8 (length shape)) (record { v = noNumbers; good = 0 }) (readOn line shape noNumbers 0 (length shape))
+abbrev pub argumentsOf : List ℕ → List ℕ → Args
+argumentsOf line shape = orArgs (ltb 8 (length shape)) (record { v = noNumbers; good = 0 }) (readOn line shape noNumbers 0 (length shape))
 
 abbrev pub orFit : Bool → Fitting → Fitting → Fitting
 orFit true a b = a
@@ -79,6 +79,6 @@ orFit false a b = b
 -- as many words as the shape asks for, and each good
 unfoldable pub fitOf : List ℕ → List ℕ → ℕ → Fitting
 fitOf line shape good =
-    orFit (eqb (wordsIn line) (length shape + 1))
+    orFit (eqb (wordCount line) (length shape + 1))
     (orFit (ltb good (length shape)) (fit.Bad (reason.BadWord (good + 2) (getD shape good 0))) fit.Good)
     (fit.Bad (reason.WordCount (length shape + 1)))

@@ -25,7 +25,7 @@ use Rattle.session.specs.declared.event.Event.the-variants as event
 use Rattle.session.specs.declared.event.Reason.the-variants as reason
 use Rattle.session.specs.Table.{commands, placeOf}
 use Rattle.session.specs.Events.{error}
-use Rattle.session.specs.Arguments.{argsOf, fitOf}
+use Rattle.session.specs.Arguments.{argumentsOf, fitOf}
 
 -- number i of a line as a byte, as 16 bits, and as a float's word
 abbrev pub byte : List ℕ → ℕ → ℕ
@@ -34,30 +34,30 @@ byte v i = getD v i 0 % 2 ^ 8
 abbrev pub half : List ℕ → ℕ → ℕ
 half v i = getD v i 0 % 2 ^ 16
 
-abbrev pub wordOf : ℕ → Word
-wordOf n = record { bits = n % 2 ^ 32 }
+abbrev pub lowWord : ℕ → Word
+lowWord n = record { bits = n % 2 ^ 32 }
 
 abbrev pub word : List ℕ → ℕ → Word
-word v i = wordOf (getD v i 0)
+word v i = lowWord (getD v i 0)
 
 abbrev pub orMode : Bool → ControlMode → ControlMode → ControlMode
 orMode true a b = a
 orMode false a b = b
 
 -- mit, pp, velocity, csp
-unfoldable pub modeAt : ℕ → ControlMode
-modeAt n = orMode (eqb n 0) mode.Mit (orMode (eqb n 1) mode.Position (orMode (eqb n 2) mode.Velocity mode.PositionCsp))
+unfoldable pub modeOf : ℕ → ControlMode
+modeOf n = orMode (eqb n 0) mode.Mit (orMode (eqb n 1) mode.Position (orMode (eqb n 2) mode.Velocity mode.PositionCsp))
 
 abbrev pub orValue : Bool → ParameterValue → ParameterValue → ParameterValue
 orValue true a b = a
 orValue false a b = b
 
 -- i8, u8, u16, u32, f32, with the value's bits
-unfoldable pub valueAt : ℕ → ℕ → ParameterValue
-valueAt kind bits =
+unfoldable pub typedValue : ℕ → ℕ → ParameterValue
+typedValue kind bits =
     orValue (eqb kind 0) (value.I8 (toZ w8 (bits % 2 ^ 8)))
     (orValue (eqb kind 1) (value.U8 (bits % 2 ^ 8))
-    (orValue (eqb kind 2) (value.U16 (bits % 2 ^ 16)) (orValue (eqb kind 3) (value.U32 (bits % 2 ^ 32)) (value.F32 (wordOf bits)))))
+    (orValue (eqb kind 2) (value.U16 (bits % 2 ^ 16)) (orValue (eqb kind 3) (value.U32 (bits % 2 ^ 32)) (value.F32 (lowWord bits)))))
 
 -- the widest value of a kind
 unfoldable pub widestOf : ℕ → ℕ
@@ -68,9 +68,9 @@ orCommand true a b = a
 orCommand false a b = b
 
 -- from write_parameter on
-unfoldable pub parameterCall : ℕ → List ℕ → Command
-parameterCall k v =
-    orCommand (eqb k 17) (command.WriteParameter (half v 3) (valueAt (getD v 4 0) (getD v 5 0)))
+unfoldable pub parameterOf : ℕ → List ℕ → Command
+parameterOf k v =
+    orCommand (eqb k 17) (command.WriteParameter (half v 3) (typedValue (getD v 4 0) (getD v 5 0)))
     (orCommand (eqb k 18) (command.SendCmdPosVelCsp (word v 3) (word v 4))
     (orCommand (eqb k 19) (command.SendCmdPosVelPp (word v 3) (word v 4) (word v 5))
     (orCommand (eqb k 20) (command.RequestParameter (half v 3))
@@ -87,15 +87,15 @@ driven k v =
     (orCommand (eqb k 12) (command.SetActiveReport (eqb (getD v 3 0) 1))
     (orCommand (eqb k 13) (command.SendCmdMit (word v 3) (word v 4) (word v 5) (word v 6) (word v 7))
     (orCommand (eqb k 14) (command.SetVelocityTarget (word v 3))
-    (orCommand (eqb k 15) (command.GetControlMode (getD v 3 0)) (orCommand (eqb k 16) (command.ControlledStop (getD v 3 0)) (parameterCall k v))))))))
+    (orCommand (eqb k 15) (command.GetControlMode (getD v 3 0)) (orCommand (eqb k 16) (command.ControlledStop (getD v 3 0)) (parameterOf k v))))))))
 
 -- the command of row k
-unfoldable pub commandAt : ℕ → List ℕ → Command
-commandAt k v =
+unfoldable pub commandOf : ℕ → List ℕ → Command
+commandOf k v =
     orCommand (eqb k 0) (command.Ping (getD v 3 0))
     (orCommand (eqb k 1) (command.PingWithHostId (half v 3) (getD v 4 0))
-    (orCommand (eqb k 2) (command.SetMode (modeAt (getD v 3 0)))
-    (orCommand (eqb k 3) (command.EnsureControlMode (modeAt (getD v 3 0)) (getD v 4 0))
+    (orCommand (eqb k 2) (command.SetMode (modeOf (getD v 3 0)))
+    (orCommand (eqb k 3) (command.EnsureControlMode (modeOf (getD v 3 0)) (getD v 4 0))
     (orCommand (eqb k 4) command.SetZeroPosition
     (orCommand (eqb k 5) command.SaveParameters
     (orCommand (eqb k 6) (command.GetProtocolFlag (getD v 3 0))
@@ -114,10 +114,10 @@ abbrev pub tooWide : List ℕ → List ℕ → ℕ
 tooWide shape v = wideAt (indexOf 0x4B shape) (length shape) v
 
 abbrev pub startBy : ℕ → ℕ → List ℕ → Event
-startBy wide k v = orEvent (eqb wide 0) (event.Call (call.Start (half v 0) (commandAt k v) (getD v 1 0))) (error (reason.BadWord wide 0x56))
+startBy wide k v = orEvent (eqb wide 0) (event.Call (call.Start (half v 0) (commandOf k v) (getD v 1 0))) (error (reason.BadWord wide 0x56))
 
-unfoldable pub startAt : ℕ → List ℕ → List ℕ → Event
-startAt k shape v = startBy (tooWide shape v) k v
+unfoldable pub startEvent : ℕ → List ℕ → List ℕ → Event
+startEvent k shape v = startBy (tooWide shape v) k v
 
 -- what a line with these words is, where they fit
 abbrev pub ifFit : Fitting → Event → Event
@@ -125,7 +125,7 @@ ifFit fit.Good e = e
 ifFit (fit.Bad r) e = error r
 
 abbrev pub startedBy : List ℕ → List ℕ → ℕ → Event
-startedBy line shape k = ifFit (fitOf line shape (argsOf line shape .good)) (startAt k shape (argsOf line shape .v))
+startedBy line shape k = ifFit (fitOf line shape (argumentsOf line shape .good)) (startEvent k shape (argumentsOf line shape .v))
 
 abbrev pub startedAs : List ℕ → ℕ → Event
 startedAs line at = orEvent (eqb (at % 2) 1) (error reason.NoSuchCommand) (startedBy line (wordAt commands (at + 1)) (at / 2))

@@ -8,8 +8,8 @@ use Rattle.bytes.specs.Bytes.{indexOf}
 use Rattle.text.specs.declared.numbers.Num.{Num}
 use Rattle.text.specs.declared.numbers.Num.the-variants.{Value, Bad}
 use Rattle.text.specs.Ascii.{ascii}
-use Rattle.text.specs.Numbers.{pick, inBase}
-use Rattle.text.specs.Words.{wordsIn, wordAt, whichOf}
+use Rattle.text.specs.Numbers.{pick, digitsIn}
+use Rattle.text.specs.Words.{wordCount, wordAt, whichOf}
 use Rattle.session.specs.declared.event.Line.{Line}
 use Rattle.session.specs.declared.event.Reason.{Reason}
 use Rattle.session.specs.declared.event.Reason.the-variants as reason
@@ -27,7 +27,7 @@ stampIn w n =
     pick (ltb n 10) Bad
     (pick (eqb (getD w (n - 1) 0) 0x29)
     (pick (eqb (getD w (n - 8) 0) 0x2E)
-    (millisecondsOf (inBase 10 (take (n - 9) (drop 1 w))) (inBase 10 (take 6 (drop (n - 7) w))))
+    (millisecondsOf (digitsIn 10 (take (n - 9) (drop 1 w))) (digitsIn 10 (take 6 (drop (n - 7) w))))
     Bad)
     Bad)
 
@@ -44,10 +44,10 @@ shiftedNum (Value v) k = shiftedBy v k
 shiftedNum Bad k = Bad
 
 -- 0 to 8 bytes, two digits each, with zeros for those that aren't there
-unfoldable pub dataIn : List ℕ → Num
-dataIn w =
+unfoldable pub dataOf : List ℕ → Num
+dataOf w =
     pick (eqb (length w) 0) (Value 0)
-    (pick (ltb 16 (length w)) Bad (pick (eqb (length w % 2) 1) Bad (shiftedNum (inBase 16 w) (16 - length w))))
+    (pick (ltb 16 (length w)) Bad (pick (eqb (length w % 2) 1) Bad (shiftedNum (digitsIn 16 w) (16 - length w))))
 
 abbrev pub begins : List ℕ → ℕ → Bool
 begins w b = cond (eqb (length w) 0) false (eqb (getD w 0 0) b)
@@ -60,11 +60,11 @@ framed Bad time id extended n = bad reason.FrameData
 unfoldable pub dataFrame : List ℕ → ℕ → ℕ → Bool → Line
 dataFrame w time id extended =
     orLine (begins w 0x52) (bad reason.RemoteFrame)
-    (orLine (begins w 0x23) (bad reason.FdFrame) (framed (dataIn w) time id extended (length w)))
+    (orLine (begins w 0x23) (bad reason.FdFrame) (framed (dataOf w) time id extended (length w)))
 
 -- eight digits, or three
-abbrev pub idIn : List ℕ → Num
-idIn w = pick (eqb (length w) 8) (inBase 16 w) (pick (eqb (length w) 3) (inBase 16 w) Bad)
+abbrev pub idOf : List ℕ → Num
+idOf w = pick (eqb (length w) 8) (digitsIn 16 w) (pick (eqb (length w) 3) (digitsIn 16 w) Bad)
 
 abbrev pub withId : Num → List ℕ → ℕ → Bool → Line
 withId (Value id) rest time extended = orLine (ltb 0x1FFF_FFFF id) (bad reason.ErrorFrame) (dataFrame rest time (id % 2 ^ 32) extended)
@@ -72,23 +72,23 @@ withId Bad rest time extended = bad reason.FrameId
 
 -- ID#DATA, the # standing at place i
 abbrev pub frameAt : List ℕ → ℕ → ℕ → Line
-frameAt w time i = orLine (leb (length w) i) (bad reason.FrameId) (withId (idIn (take i w)) (drop (i + 1) w) time (eqb i 8))
+frameAt w time i = orLine (leb (length w) i) (bad reason.FrameId) (withId (idOf (take i w)) (drop (i + 1) w) time (eqb i 8))
 
-unfoldable pub frameIn : List ℕ → ℕ → Line
-frameIn w time = frameAt w time (indexOf 0x23 w)
+unfoldable pub loggedFrame : List ℕ → ℕ → Line
+loggedFrame w time = frameAt w time (indexOf 0x23 w)
 
 -- a fourth word is R or T
 abbrev pub isDirection : ℕ → List ℕ → Bool
 isDirection n w = cond (ltb n 4) true (ltb (whichOf (ascii "R T") 2 w) 2)
 
 abbrev pub atTime : Num → List ℕ → Line
-atTime (Value time) w = frameIn w time
+atTime (Value time) w = loggedFrame w time
 atTime Bad w = bad reason.Stamp
 
 -- (SECONDS.MICROS) IFACE ID#DATA, and perhaps R or T
 unfoldable pub heardIn : List ℕ → Line
 heardIn line =
-    orLine (ltb (wordsIn line) 3) (bad reason.LogWords)
-    (orLine (ltb 4 (wordsIn line)) (bad reason.LogWords)
+    orLine (ltb (wordCount line) 3) (bad reason.LogWords)
+    (orLine (ltb 4 (wordCount line)) (bad reason.LogWords)
     (orLine (eqb (length (wordAt line 1)) 0) (bad reason.LogWords)
-    (orLine (isDirection (wordsIn line) (wordAt line 3)) (atTime (stampOf (wordAt line 0)) (wordAt line 2)) (bad reason.Direction))))
+    (orLine (isDirection (wordCount line) (wordAt line 3)) (atTime (stampOf (wordAt line 0)) (wordAt line 2)) (bad reason.Direction))))

@@ -15,7 +15,7 @@ use Rattle.session.specs.declared.event.Other.the-variants as other
 use Rattle.session.specs.declared.event.Reason.the-variants as reason
 use Rattle.session.specs.Limits.{longestLine}
 use Rattle.session.specs.Table.{events, placeOf}
-use Rattle.session.specs.Arguments.{argsOf, fitOf}
+use Rattle.session.specs.Arguments.{argumentsOf, fitOf}
 use Rattle.session.specs.Commands.{byte, half, started}
 use Rattle.session.specs.Events.{bare, bad, canFrame, hands, orLine}
 use Rattle.session.specs.Heard.{heardIn}
@@ -33,8 +33,8 @@ abbrev pub anyFrame : List ℕ → Line
 anyFrame v = hands (canFrame (getD v 1 0 % 2 ^ 32) (getD v 2 0) (eqb (getD v 3 0) 1) (byte v 4) (eqb (getD v 5 0) 1)) (getD v 0 0)
 
 -- the event of row k, of a line and its numbers
-unfoldable pub callAt : List ℕ → ℕ → List ℕ → Line
-callAt line k v =
+unfoldable pub callEvent : List ℕ → ℕ → List ℕ → Line
+callEvent line k v =
     orLine (eqb k 0) (bare (event.Other other.Fresh))
     (orLine (eqb k 1) (registered (wordAt line 3) v)
     (orLine (eqb k 2) (bare (event.Call (call.Step (half v 0) (getD v 1 0))))
@@ -47,7 +47,7 @@ ifFits fit.Good l = l
 ifFits (fit.Bad r) l = bad r
 
 abbrev pub calledBy : List ℕ → List ℕ → ℕ → Line
-calledBy line shape k = ifFits (fitOf line shape (argsOf line shape .good)) (callAt line k (argsOf line shape .v))
+calledBy line shape k = ifFits (fitOf line shape (argumentsOf line shape .good)) (callEvent line k (argumentsOf line shape .v))
 
 -- a start's line is read by its command
 unfoldable pub called : List ℕ → List ℕ → ℕ → Line

@@ -4,7 +4,7 @@ use mathlib.Core.Bool.{cond}
 use mathlib.Core.List.{List}
 use lib.Dec.{eqb}
 use Rattle.text.specs.Ascii.{ascii}
-use Rattle.text.specs.Words.{wordsIn, whichOf}
+use Rattle.text.specs.Words.{wordCount, whichOf}
 
 -- the commands of a start, each with the shape of the whole line
 abbrev pub commands : List ℕ
@@ -25,4 +25,4 @@ foundAt at n = cond (eqb at n) 1 at
 
 -- where a name stands among the words of a table, an even place; an odd one, a shape's or 1, for no name
 unfoldable pub placeOf : List ℕ → List ℕ → ℕ
-placeOf table w = foundAt (whichOf table (wordsIn table) w) (wordsIn table)
+placeOf table w = foundAt (whichOf table (wordCount table) w) (wordCount table)

@@ -8,7 +8,7 @@ use crate::table::MODES;
 use text::Num;
 ghost use mathlib.Core.Path.{_≡_};
 ghost use Prim.Native.Nat.{_%_, _^_};
-ghost use Rattle.session.specs.Arguments.{mostOf, isCapped, bounded, namedIn, payloadIn, anyIn, argumentOf, argsOf, fitOf};
+ghost use Rattle.session.specs.Arguments.{mostOf, isCapped, bounded, namedIn, payloadIn, anyIn, argumentOf, argumentsOf, fitOf};
 
 // The numbers of the words, and how many words are as their letters say, up to the first that isn't.
 pub(crate) struct Args {
@@ -23,7 +23,7 @@ pub(crate) enum Fitting {
 
 // The words after the first, one for each letter of the shape. No shape has more than eight letters.
 pub(crate) fn arguments(line: &[u8], shape: &[u8]) -> Args
-    ensures { λ r. ⌜ r ≡ argsOf (now (line .entry)) (now (shape .entry)) ⌝ }
+    ensures { λ r. ⌜ r ≡ argumentsOf (now (line .entry)) (now (shape .entry)) ⌝ }
 {
     let mut v = [0u64; 8];
     let n = shape.len();

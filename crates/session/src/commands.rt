@@ -31,14 +31,14 @@ pub(crate) fn started(line: &[u8]) -> Event
     let args = arguments(line, shape);
     let v = args.v;
     match fit(line, shape, args.good) {
-        Fitting::Good => start_of(at / 2, shape, v),
+        Fitting::Good => start_event(at / 2, shape, v),
         Fitting::Bad(reason) => Event::Other(Other::Error(reason)),
     }
 }
 
 // The start of row k, whose arguments stand in v from place 3 on.
-fn start_of(k: usize, shape: &[u8], v: [u64; 8]) -> Event
-    ensures { λ r. ⌜ r ≡ spec.startAt k (now (shape .entry)) v ⌝ }
+fn start_event(k: usize, shape: &[u8], v: [u64; 8]) -> Event
+    ensures { λ r. ⌜ r ≡ spec.startEvent k (now (shape .entry)) v ⌝ }
 {
     let wide = too_wide(shape, v);
     if wide != 0 {
@@ -70,7 +70,7 @@ fn too_wide(shape: &[u8], v: [u64; 8]) -> usize
 
 // The command of row k.
 fn command_of(k: usize, v: [u64; 8]) -> Command
-    ensures { λ r. ⌜ r ≡ spec.commandAt k v ⌝ }
+    ensures { λ r. ⌜ r ≡ spec.commandOf k v ⌝ }
 {
     match k {
         0 => Command::Ping(v[3]),
@@ -95,8 +95,14 @@ fn driven(k: usize, v: [u64; 8]) -> Command
         10 => Command::Disable,
         11 => Command::ClearError,
         12 => Command::SetActiveReport(v[3] == 1),
-        13 => Command::SendCmdMit(word(v[3]), word(v[4]), word(v[5]), word(v[6]), word(v[7])),
-        14 => Command::SetVelocityTarget(word(v[3])),
+        13 => Command::SendCmdMit(
+            low_word(v[3]),
+            low_word(v[4]),
+            low_word(v[5]),
+            low_word(v[6]),
+            low_word(v[7]),
+        ),
+        14 => Command::SetVelocityTarget(low_word(v[3])),
         15 => Command::GetControlMode(v[3]),
         16 => Command::ControlledStop(v[3]),
         _ => parameter(k, v),
@@ -105,12 +111,12 @@ fn driven(k: usize, v: [u64; 8]) -> Command
 
 // From write_parameter on.
 fn parameter(k: usize, v: [u64; 8]) -> Command
-    ensures { λ r. ⌜ r ≡ spec.parameterCall k v ⌝ }
+    ensures { λ r. ⌜ r ≡ spec.parameterOf k v ⌝ }
 {
     match k {
-        17 => Command::WriteParameter(low16(v[3]), value_of(v[4], v[5])),
-        18 => Command::SendCmdPosVelCsp(word(v[3]), word(v[4])),
-        19 => Command::SendCmdPosVelPp(word(v[3]), word(v[4]), word(v[5])),
+        17 => Command::WriteParameter(low16(v[3]), typed_value(v[4], v[5])),
+        18 => Command::SendCmdPosVelCsp(low_word(v[3]), low_word(v[4])),
+        19 => Command::SendCmdPosVelPp(low_word(v[3]), low_word(v[4]), low_word(v[5])),
         20 => Command::RequestParameter(low16(v[3])),
         21 => Command::GetParameter(low16(v[3]), v[4]),
         22 => Command::GetParameterWithHostId(low16(v[3]), low16(v[4]), v[5]),
@@ -121,7 +127,7 @@ fn parameter(k: usize, v: [u64; 8]) -> Command
 
 // A mode by its place among the names.
 fn mode_of(n: u64) -> ControlMode
-    ensures { λ r. ⌜ r ≡ spec.modeAt n ⌝ }
+    ensures { λ r. ⌜ r ≡ spec.modeOf n ⌝ }
 {
     match n {
         0 => ControlMode::Mit,
@@ -132,15 +138,15 @@ fn mode_of(n: u64) -> ControlMode
 }
 
 // A value by its kind's place among the names, and its bits.
-fn value_of(kind: u64, bits: u64) -> ParameterValue
-    ensures { λ r. ⌜ r ≡ spec.valueAt kind bits ⌝ }
+fn typed_value(kind: u64, bits: u64) -> ParameterValue
+    ensures { λ r. ⌜ r ≡ spec.typedValue kind bits ⌝ }
 {
     match kind {
         0 => ParameterValue::I8(signed_of(low8(bits))),
         1 => ParameterValue::U8(low8(bits)),
         2 => ParameterValue::U16(low16(bits)),
         3 => ParameterValue::U32(low32(bits)),
-        _ => ParameterValue::F32(word(bits)),
+        _ => ParameterValue::F32(low_word(bits)),
     }
 }
 
@@ -156,8 +162,8 @@ fn widest(kind: u64) -> u64
     }
 }
 
-fn word(n: u64) -> Word
-    ensures { λ r. ⌜ r ≡ spec.wordOf n ⌝ }
+fn low_word(n: u64) -> Word
+    ensures { λ r. ⌜ r ≡ spec.lowWord n ⌝ }
 {
     let bits = low32(n);
     Word { bits }

@@ -30,7 +30,7 @@ pub(crate) fn heard(line: &[u8]) -> Line
     let Num::Value(time) = stamp(text::word(line, 0)) else {
         return bad(Reason::Stamp);
     };
-    frame_in(text::word(line, 2), time)
+    logged_frame(text::word(line, 2), time)
 }
 
 // Whether a fourth word, if there is one, is R or T.
@@ -82,8 +82,8 @@ fn milliseconds(seconds: Num, micros: Num) -> Num
 }
 
 // ID#DATA
-fn frame_in(w: &[u8], time: u64) -> Line
-    ensures { λ r. ⌜ r ≡ spec.frameIn (now (w .entry)) time ⌝ }
+fn logged_frame(w: &[u8], time: u64) -> Line
+    ensures { λ r. ⌜ r ≡ spec.loggedFrame (now (w .entry)) time ⌝ }
 {
     let end = bytes::scan::find(w, 0, w.len(), b'#');
     if w.len() <= end {
@@ -100,7 +100,7 @@ fn frame_in(w: &[u8], time: u64) -> Line
 
 // Eight digits, or three.
 fn id_of(w: &[u8]) -> Num
-    ensures { λ r. ⌜ r ≡ spec.idIn (now (w .entry)) ⌝ }
+    ensures { λ r. ⌜ r ≡ spec.idOf (now (w .entry)) ⌝ }
 {
     if w.len() == 8 {
         return text::hex_word(w);
@@ -139,7 +139,7 @@ fn begins(w: &[u8], b: u8) -> bool
 
 // The digits with zeros after them to 16, as one number.
 fn data_of(w: &[u8]) -> Num
-    ensures { λ r. ⌜ r ≡ spec.dataIn (now (w .entry)) ⌝ }
+    ensures { λ r. ⌜ r ≡ spec.dataOf (now (w .entry)) ⌝ }
 {
     let n = w.len();
     if n == 0 {

@@ -73,13 +73,13 @@ fn called(line: &[u8], shape: &[u8], k: usize) -> Line
     let args = arguments(line, shape);
     let v = args.v;
     match fit(line, shape, args.good) {
-        Fitting::Good => call_of(line, k, v),
+        Fitting::Good => call_event(line, k, v),
         Fitting::Bad(reason) => bad(reason),
     }
 }
 
-fn call_of(line: &[u8], k: usize, v: [u64; 8]) -> Line
-    ensures { λ r. ⌜ r ≡ spec.callAt (now (line .entry)) k v ⌝ }
+fn call_event(line: &[u8], k: usize, v: [u64; 8]) -> Line
+    ensures { λ r. ⌜ r ≡ spec.callEvent (now (line .entry)) k v ⌝ }
 {
     match k {
         0 => bare(Event::Other(Other::Fresh)),

@@ -22,7 +22,7 @@ use Rattle.motor.proofs.ReadingsHeld.{empty-holds}
 use Rattle.station.specs.declared.station.Station.{Station}
 use Rattle.station.specs.Station.{Place, held, full, isSome}
 use Rattle.station.specs.Station.{enter, admit}
-use Rattle.station.specs.Stations.{indexOf, atPlace, enteredIn, admittedIn, registerBy}
+use Rattle.station.specs.Stations.{placeOf, atPlace, enteredIn, admittedIn, registerBy}
 use Rattle.station.specs.Stations.{Shows, LeavesAs}
 use Rattle.station.proofs.Index.{full-at, room-at, add-as}
 use Rattle.station.proofs.Steps.{refused-passed}
@@ -67,12 +67,12 @@ module _ (st : Station) (s : List Place) (x : Shows st s) (m host : ℕ) (model 
   Admits k = LeavesAs (admittedIn st m host model wait time) (admit k s m host (named.Known model) wait time)
 
   -- 4, or the first free place
-  entered : held s m ≡ none → (b : Bool) → ltb (indexOf (st .motors) 0) 8 ≡ b
+  entered : held s m ≡ none → (b : Bool) → ltb (placeOf (st .motors) 0) 8 ≡ b
       → LeavesAs (enteredIn st (newMotor m host model wait time))
       (admit (firstOf ((false, refusal.IdRegistered) ∷ (full s, refusal.StationFull) ∷ [])) s m host (named.Known model) wait time)
   unfolding enteredIn admit enter
   entered q true p =
-      let l : indexOf (st .motors) 0 < length (st .motors) = rw (x .eight) (ltb→lt (indexOf (st .motors) 0) 8 (rw p tt)) in
+      let l : placeOf (st .motors) 0 < length (st .motors) = rw (x .eight) (ltb→lt (placeOf (st .motors) 0) 8 (rw p tt)) in
       rw (p, room-at (st .motors) s (x .places) l)
       (record {
         answer = refl;
@@ -84,14 +84,14 @@ module _ (st : Station) (s : List Place) (x : Shows st s) (m host : ℕ) (model 
             };
       })
   entered q false p =
-      rw (p, full-at (st .motors) s (x .places) (rw (x .eight) (nltb→le (indexOf (st .motors) 0) 8 (rw p tt)))) (record { answer = refl; station = x })
+      rw (p, full-at (st .motors) s (x .places) (rw (x .eight) (nltb→le (placeOf (st .motors) 0) 8 (rw p tt)))) (record { answer = refl; station = x })
 
   admitted-means : Admits (firstOf ((isSome (held s m), refusal.IdRegistered) ∷ (full s, refusal.StationFull) ∷ []))
   unfolding admittedIn atPlace isSome admit
   admitted-means = go (where-is st s x m)
     where
       go : Where st s x m → Admits (firstOf ((isSome (held s m), refusal.IdRegistered) ∷ (full s, refusal.StationFull) ∷ []))
-      go (absent p q) = rw (p, q) (entered q (ltb (indexOf (st .motors) 0) 8) refl)
+      go (absent p q) = rw (p, q) (entered q (ltb (placeOf (st .motors) 0) 8) refl)
       go (present p v e l h q t) = rw (p, q) (record { answer = refl; station = x })
 
 pub by-tests : (st : Station) (s : List Place) → Shows st s → (m host : ℕ) (model : ModelNamed) (wait time : ℕ) (k : Checked)

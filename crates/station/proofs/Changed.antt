@@ -17,11 +17,11 @@ use Rattle.motor.proofs.engine.Choices.{cond-yes}
 use Rattle.motor.specs.declared.motor.State.{State}
 use Rattle.motor.specs.Lone.{Lone, loneStep, hears}
 use Rattle.motor.specs.Readings.{insert, room}
-use Rattle.motor.specs.Receive.{accepts, counted, readId, readStored, frameSaid, stateAfter, readingsAfter}
+use Rattle.motor.specs.Receive.{acceptsFrame, countedAt, readId, readStored, frameSaid, stateAfter, readingsAfter}
 use Rattle.motor.proofs.Clock.{step-failed}
 use Rattle.motor.proofs.Stays.{movesBy}
 use Rattle.station.specs.Calls.{step, frame, Reply, no, says, answered}
-use Rattle.station.specs.Station.{Place, held, Distinct, movesTo, hearsTo, loneBy, source, toSource, stationBy, stationCall}
+use Rattle.station.specs.Station.{Place, held, Distinct, movesTo, hearsTo, loneBy, sourceOf, toSource, stationBy, stationCall}
 use Rattle.station.specs.History.{mineBy}
 use Rattle.station.specs.Demands.{number, raised, failed}
 use Rattle.station.proofs.NumberLists.{of-each}
@@ -42,17 +42,17 @@ lone-counted h f now = go (frameSaid (h .state) f now (not (room (readId f) (h .
     go : (k : Checked) → among (number (answered k)) (14 ∷ 15 ∷ []) ≡ true → some (new k) ≡ some (raised h now)
     go checked.Passed e = absurd (true≢false (sym e))
     go (checked.Refused r) e =
-        ap {B = Option Lone} (λ (a : State). some (record { state = a; readings = h .readings })) (cond-yes (counted (h .state) now) (h .state) e)
+        ap {B = Option Lone} (λ (a : State). some (record { state = a; readings = h .readings })) (cond-yes (countedAt (h .state) now) (h .state) e)
 
-pub frame-counted : (s : List Place) (f : CanFrame) (now : ℕ) (h : Lone) → Distinct s → held s (source f) ≡ some h
+pub frame-counted : (s : List Place) (f : CanFrame) (now : ℕ) (h : Lone) → Distinct s → held s (sourceOf f) ≡ some h
     → among (number ((stationCall s (frame f now)) .0)) (14 ∷ 15 ∷ []) ≡ true
-    → held ((stationCall s (frame f now)) .1) (source f) ≡ some (raised h now)
+    → held ((stationCall s (frame f now)) .1) (sourceOf f) ≡ some (raised h now)
 unfolding stationBy loneBy mineBy among
-frame-counted s f now h d q e = go (accepts (source f) f) refl
+frame-counted s f now h d q e = go (acceptsFrame (sourceOf f) f) refl
   where
-    go : (b : Bool) → accepts (source f) f ≡ b → held ((stationCall s (frame f now)) .1) (source f) ≡ some (raised h now)
+    go : (b : Bool) → acceptsFrame (sourceOf f) f ≡ b → held ((stationCall s (frame f now)) .1) (sourceOf f) ≡ some (raised h now)
     go true p =
-        let o = own-call s (source f) h (frame f now) d q p in
+        let o = own-call s (sourceOf f) h (frame f now) d q p in
         o .1 ∙ lone-counted h f now (subst (λ (a : Reply). among (number a) (14 ∷ 15 ∷ []) ≡ true) (o .0) e)
     go false p =
         absurd (true≢false (sym e ∙ ap (λ (b : Bool). among (number ((cond b (toSource s f now) (no refusal.FrameNotAccepted, s)) .0)) (14 ∷ 15 ∷ [])) p))

@@ -15,22 +15,22 @@ use Rattle.motor.specs.declared.engine.operation.Effect.{Effect}
 use Rattle.motor.specs.declared.engine.operation.Effect.the-variants as effect
 use Rattle.motor.specs.declared.engine.operation.Operation.{Operation}
 use Rattle.motor.specs.declared.engine.operation.Phase.{Phase}
-use Rattle.motor.specs.engine.Run.{idle, advance}
+use Rattle.motor.specs.engine.Run.{noOperation, advanced}
 use Rattle.motor.proofs.engine.Choices.{cond-yes}
 use Rattle.motor.specs.declared.motor.Motor.{Motor}
 use Rattle.motor.specs.declared.motor.State.{State}
 use Rattle.motor.specs.declared.readings.Readings.{Readings}
-use Rattle.motor.specs.Calls.{isIdle, stepSaid, noCommand, sightOf, movedBy, readingsBy, wanted}
+use Rattle.motor.specs.Calls.{isIdle, stepSaid, noCommand, sightOf, stateBy, readingsBy, wanted}
 use Rattle.motor.specs.Motors.{stepBy, stepOf, removalOf}
-use Rattle.motor.specs.Readings.{findOf, putOf, dropOf}
-use Rattle.motor.specs.Receive.{accepts, late, counted, readId, readStored, frameSaid, stateAfter, readingsAfter, isFull, heardOf}
+use Rattle.motor.specs.Readings.{findOf, putOf, dropId}
+use Rattle.motor.specs.Receive.{acceptsFrame, isLate, countedAt, readId, readStored, frameSaid, stateAfter, readingsAfter, isFull, processFeedbackFrame}
 use Rattle.motor.proofs.Ends.{Closed, advance-ends}
 use Rattle.motor.proofs.Stays.{Stays, step-stays, running}
 use Rattle.station.specs.declared.station.Station.{Station}
 use Rattle.station.specs.declared.station.After.{After}
 use Rattle.station.specs.Calls.{step, frame, remove, gives, ok, says, answered}
-use Rattle.station.specs.Station.{source}
-use Rattle.station.specs.Stations.{freeMotor, takenPlace, motorAt, withMotor, atPlace, tells, movedAt, unmoved, heardAt, removedAt, stepIn, frameIn, removeIn}
+use Rattle.station.specs.Station.{sourceOf}
+use Rattle.station.specs.Stations.{freeMotor, takenPlace, motorAt, withMotor, atPlace, tell, movedAt, notMoved, heardAt, removedAt, stepIn, frameIn, removeIn}
 use Rattle.station.specs.Demands.{number}
 use Rattle.station.proofs.Contracts.{replyIn, next, givenBy, given}
 use Rattle.station.proofs.Elsewhere.{either, at-place, placeBy, placeFor}
@@ -39,39 +39,39 @@ use Rattle.station.proofs.Steps.{no-ok}
 
 -- the motor at a place with the clock at this time, and its response count raised, or its operation over
 abbrev pub raisedAt : Station → ℕ → ℕ → Station
-raisedAt st i now = withMotor st i (record { state = counted (motorAt st i .state) now; readings = motorAt st i .readings })
+raisedAt st i now = withMotor st i (record { state = countedAt (motorAt st i .state) now; readings = motorAt st i .readings })
 
 abbrev pub failedAt : Station → ℕ → ℕ → Station
 failedAt st i now =
-    withMotor st i (record { state = movedBy (motorAt st i .state) now noCommand idle effect.Nothing; readings = motorAt st i .readings })
+    withMotor st i (record { state = stateBy (motorAt st i .state) now noCommand noOperation effect.Nothing; readings = motorAt st i .readings })
 
 -- ---- 14 and 15
 
-motor-counted : (y : Motor) (f : CanFrame) (now : ℕ) → among (number (answered (heardOf y f now .said))) (14 ∷ 15 ∷ []) ≡ true
-    → _≡_ {A = Motor} (heardOf y f now .motor) (record { state = counted (y .state) now; readings = y .readings })
-unfolding heardOf stateAfter readingsAfter among
+motor-counted : (y : Motor) (f : CanFrame) (now : ℕ) → among (number (answered (processFeedbackFrame y f now .said))) (14 ∷ 15 ∷ []) ≡ true
+    → _≡_ {A = Motor} (processFeedbackFrame y f now .motor) (record { state = countedAt (y .state) now; readings = y .readings })
+unfolding processFeedbackFrame stateAfter readingsAfter among
 motor-counted y f now =
     let put = putOf (y .readings) (readId f) (readStored f) in
     go (frameSaid (y .state) f now (isFull (put .said))) (put .readings)
   where
     go : (k : Checked) (new : Readings) → among (number (answered k)) (14 ∷ 15 ∷ []) ≡ true
         → _≡_ {A = Motor} (record { state = stateAfter k (y .state) f now; readings = readingsAfter k f new (y .readings) })
-        (record { state = counted (y .state) now; readings = y .readings })
+        (record { state = countedAt (y .state) now; readings = y .readings })
     go checked.Passed new e = absurd (true≢false (sym e))
     go (checked.Refused r) new e =
-        ap {B = Motor} (λ (a : State). record { state = a; readings = y .readings }) (cond-yes (counted (y .state) now) (y .state) e)
+        ap {B = Motor} (λ (a : State). record { state = a; readings = y .readings }) (cond-yes (countedAt (y .state) now) (y .state) e)
 
 module _ (st : Station) (f : CanFrame) (now : ℕ) where
   abbrev Raised : After → Type 0
-  Raised r = among (number (gives (r .replied))) (14 ∷ 15 ∷ []) ≡ true → r .station ≡ raisedAt st (takenPlace (st .motors) (source f)) now
+  Raised r = among (number (gives (r .replied))) (14 ∷ 15 ∷ []) ≡ true → r .station ≡ raisedAt st (takenPlace (st .motors) (sourceOf f)) now
 
   frame-raised : Raised (frameIn st f now)
   unfolding frameIn among
   frame-raised =
-      let other = tells st (checked.Refused refusal.FrameNotAccepted) in
-      let found : ℕ → After = λ i. heardAt st i (heardOf (motorAt st i) f now) in
-      either Raised (accepts (source f) f) (atPlace st (source f) found other) other
-      (at-place Raised st (source f) found other
+      let other = tell st (checked.Refused refusal.FrameNotAccepted) in
+      let found : ℕ → After = λ i. heardAt st i (processFeedbackFrame (motorAt st i) f now) in
+      either Raised (acceptsFrame (sourceOf f) f) (atPlace st (sourceOf f) found other) other
+      (at-place Raised st (sourceOf f) found other
       (λ i p e. ap (λ (y : Motor). withMotor st i y) (motor-counted (motorAt st i) f now e) ∙ ap (λ (j : ℕ). raisedAt st j now) p)
       (λ e. absurd (true≢false (sym e))))
       (λ e. absurd (true≢false (sym e)))
@@ -84,7 +84,7 @@ module _ (st : Station) (f : CanFrame) (now : ℕ) where
 -- ---- 16, 17, 18 and 20
 
 motor-ended : (y : Motor) (now : ℕ) → among (number (says (stepOf y now .said) (stepOf y now .frame) (stepOf y now .result))) (16 ∷ 17 ∷ 18 ∷ 20 ∷ []) ≡ true
-    → _≡_ {A = Motor} (stepOf y now .motor) (record { state = movedBy (y .state) now noCommand idle effect.Nothing; readings = y .readings })
+    → _≡_ {A = Motor} (stepOf y now .motor) (record { state = stateBy (y .state) now noCommand noOperation effect.Nothing; readings = y .readings })
 unfolding among
 motor-ended y now = go (stepSaid (y .state .clock) p now) refl (step-stays (y .state .clock) p now)
   where
@@ -92,24 +92,24 @@ motor-ended y now = go (stepSaid (y .state .clock) p now) refl (step-stays (y .s
     p = y .state .operation .phase
 
     after : Operation → Effect → Motor
-    after op x = record { state = movedBy (y .state) now (y .state .command) op x; readings = readingsBy x (λ id. dropOf (y .readings) id) (y .readings) }
+    after op x = record { state = stateBy (y .state) now (y .state .command) op x; readings = readingsBy x (λ id. dropId (y .readings) id) (y .readings) }
 
     over : (w : Said) (op : Operation) (x : Effect) (f : CanFrame) (b : List ℕ) → Closed w op x → among (number (says w f b)) (16 ∷ 17 ∷ 18 ∷ 20 ∷ []) ≡ true
-        → after op x ≡ after idle effect.Nothing
+        → after op x ≡ after noOperation effect.Nothing
     over (said.Sent due) op x f b h e = absurd (true≢false (sym e))
     over (said.Waiting due) op x f b h e = absurd (true≢false (sym e))
     over (said.Finished r) op x f b h e = absurd (true≢false (sym e))
     over (said.FinishedWith r) op x f b h e = absurd (true≢false (sym e))
-    over (said.Refused r) op x f b h e = ap (λ (o : Operation). after o x) (h .1) ∙ ap (λ (z : Effect). after idle z) (h .2)
+    over (said.Refused r) op x f b h e = ap (λ (o : Operation). after o x) (h .1) ∙ ap (λ (z : Effect). after noOperation z) (h .2)
 
     go : (k : Checked) → stepSaid (y .state .clock) p now ≡ k → Stays k
         → among (number (says (stepBy k y now .said) (stepBy k y now .frame) (stepBy k y now .result))) (16 ∷ 17 ∷ 18 ∷ 20 ∷ []) ≡ true
-        → stepBy k y now .motor ≡ after idle effect.Nothing
+        → stepBy k y now .motor ≡ after noOperation effect.Nothing
     go checked.Passed q s e =
         let f = wanted p (λ id. findOf (y .readings) id) in
-        let v = advance (sightOf (y .state)) now (y .state .operation) f p in
+        let v = advanced (sightOf (y .state)) now (y .state .operation) f p in
         over (v .said) (v .operation) (v .effect) (v .frame) (v .result)
-        (advance-ends (sightOf (y .state)) now (y .state .operation) f p (running (late (y .state .clock) now) (isIdle p) q)) e
+        (advance-ends (sightOf (y .state)) now (y .state .operation) f p (running (isLate (y .state .clock) now) (isIdle p) q)) e
     go (checked.Refused r) q s e = absurd (true≢false (sym (moving r e) ∙ s))
 
 module _ (st : Station) (m now : ℕ) where
@@ -119,7 +119,7 @@ module _ (st : Station) (m now : ℕ) where
   step-failed : Failed (stepIn st m now)
   unfolding stepIn among
   step-failed =
-      at-place Failed st m (λ i. movedAt st i (stepOf (motorAt st i) now)) (unmoved st)
+      at-place Failed st m (λ i. movedAt st i (stepOf (motorAt st i) now)) (notMoved st)
       (λ i p e. ap (λ (y : Motor). withMotor st i y) (motor-ended (motorAt st i) now e) ∙ ap (λ (j : ℕ). failedAt st j now) p)
       (λ e. absurd (true≢false (sym e)))
 
@@ -141,7 +141,7 @@ module _ (st : Station) (m now : ℕ) where
   remove-freed : Freed (removeIn st m now)
   unfolding removeIn
   remove-freed =
-      at-place Freed st m (λ i. removedAt (removalOf (motorAt st i) now) st i) (tells st (checked.Refused refusal.IdNotRegistered))
+      at-place Freed st m (λ i. removedAt (removalOf (motorAt st i) now) st i) (tell st (checked.Refused refusal.IdNotRegistered))
       (λ i p. removed-freed (removalOf (motorAt st i) now) i p)
       (λ e. no-ok refusal.IdNotRegistered e)
 

@@ -20,14 +20,14 @@ use Rattle.motor.specs.declared.receive.Heard.{Heard}
 use Rattle.motor.specs.declared.registration.Admission.{Admission}
 use Rattle.motor.specs.Calls.{registrationOf}
 use Rattle.motor.specs.Motors.{newMotor, startOf, stepOf, lookOf, removalOf}
-use Rattle.motor.specs.Receive.{accepts, heardOf}
+use Rattle.motor.specs.Receive.{acceptsFrame, processFeedbackFrame}
 use Rattle.station.specs.declared.station.Station.{Station}
 use Rattle.station.specs.declared.station.After.{After}
 use Rattle.station.specs.declared.station.Looked.{Looked}
 use Rattle.station.specs.Calls.{register, start, step, frame, look, remove}
 use Rattle.station.specs.Calls.{Reply}
-use Rattle.station.specs.Station.{Place, source, stationCall}
-use Rattle.station.specs.Stations.{freeMotor, indexOf, takenPlace, motorAt, withMotor, atPlace, tells, movedAt, unmoved, heardAt, removedAt, enteredIn, admittedIn, registerBy, registerIn, startIn, stepIn, frameIn, lookIn, removeIn}
+use Rattle.station.specs.Station.{Place, sourceOf, stationCall}
+use Rattle.station.specs.Stations.{freeMotor, placeOf, takenPlace, motorAt, withMotor, atPlace, tell, movedAt, notMoved, heardAt, removedAt, enteredIn, admittedIn, registerBy, registerIn, startIn, stepIn, frameIn, lookIn, removeIn}
 use Rattle.station.specs.Stations.{Shows, LeavesAs, replyOf}
 use Rattle.station.proofs.Meanings.{start-means, step-means, frame-means, look-means, remove-means, register-means}
 
@@ -83,14 +83,14 @@ module _ (st : Station) (id i : ℕ) (e : i ≡ takenPlace (st .motors) id) wher
     start-found c now a r p q =
         q
         ∙ ap (λ (b : Answered). movedAt st i b) (p ∙ ap (λ (m : Motor). startOf m c now) at)
-        ∙ at-found st id i (λ j. movedAt st j (startOf (motorAt st j) c now)) (unmoved st) e l
+        ∙ at-found st id i (λ j. movedAt st j (startOf (motorAt st j) c now)) (notMoved st) e l
 
     pub step-found : (now : ℕ) (a : Answered) (r : After) → a ≡ stepOf y now → r ≡ movedAt st i a → r ≡ stepIn st id now
     unfolding stepIn
     step-found now a r p q =
         q
         ∙ ap (λ (b : Answered). movedAt st i b) (p ∙ ap (λ (m : Motor). stepOf m now) at)
-        ∙ at-found st id i (λ j. movedAt st j (stepOf (motorAt st j) now)) (unmoved st) e l
+        ∙ at-found st id i (λ j. movedAt st j (stepOf (motorAt st j) now)) (notMoved st) e l
 
     pub look-found : (v : Seen) → v ≡ lookOf y → _≡_ {A = Looked} (record { said = checked.Passed; seen = v }) (lookIn st id)
     unfolding lookIn
@@ -104,16 +104,16 @@ module _ (st : Station) (id i : ℕ) (e : i ≡ takenPlace (st .motors) id) wher
     remove-found now k r p q =
         q
         ∙ ap (λ (b : Checked). removedAt b st i) (p ∙ ap (λ (m : Motor). removalOf m now) at)
-        ∙ at-found st id i (λ j. removedAt (removalOf (motorAt st j) now) st j) (tells st (checked.Refused refusal.IdNotRegistered)) e l
+        ∙ at-found st id i (λ j. removedAt (removalOf (motorAt st j) now) st j) (tell st (checked.Refused refusal.IdNotRegistered)) e l
 
   module _ (l : 8 ≤ i) where
-    pub start-none : (c : Command) (now : ℕ) (r : After) → r ≡ unmoved st → r ≡ startIn st id c now
+    pub start-none : (c : Command) (now : ℕ) (r : After) → r ≡ notMoved st → r ≡ startIn st id c now
     unfolding startIn
-    start-none c now r q = q ∙ at-none st id i (λ j. movedAt st j (startOf (motorAt st j) c now)) (unmoved st) e l
+    start-none c now r q = q ∙ at-none st id i (λ j. movedAt st j (startOf (motorAt st j) c now)) (notMoved st) e l
 
-    pub step-none : (now : ℕ) (r : After) → r ≡ unmoved st → r ≡ stepIn st id now
+    pub step-none : (now : ℕ) (r : After) → r ≡ notMoved st → r ≡ stepIn st id now
     unfolding stepIn
-    step-none now r q = q ∙ at-none st id i (λ j. movedAt st j (stepOf (motorAt st j) now)) (unmoved st) e l
+    step-none now r q = q ∙ at-none st id i (λ j. movedAt st j (stepOf (motorAt st j) now)) (notMoved st) e l
 
     pub look-none : (v : Seen) (y : Motor) → v ≡ lookOf y → y ≡ freeMotor
         → _≡_ {A = Looked} (record { said = checked.Refused refusal.IdNotRegistered; seen = v }) (lookIn st id)
@@ -123,77 +123,77 @@ module _ (st : Station) (id i : ℕ) (e : i ≡ takenPlace (st .motors) id) wher
         ∙ at-none {A = Looked} st id i (λ j. record { said = checked.Passed; seen = lookOf (motorAt st j) })
         (record { said = checked.Refused refusal.IdNotRegistered; seen = lookOf freeMotor }) e l
 
-    pub remove-none : (now : ℕ) (r : After) → r ≡ tells st (checked.Refused refusal.IdNotRegistered) → r ≡ removeIn st id now
+    pub remove-none : (now : ℕ) (r : After) → r ≡ tell st (checked.Refused refusal.IdNotRegistered) → r ≡ removeIn st id now
     unfolding removeIn
     remove-none now r q =
-        q ∙ at-none st id i (λ j. removedAt (removalOf (motorAt st j) now) st j) (tells st (checked.Refused refusal.IdNotRegistered)) e l
+        q ∙ at-none st id i (λ j. removedAt (removalOf (motorAt st j) now) st j) (tell st (checked.Refused refusal.IdNotRegistered)) e l
 
 -- ---- a frame
 
-module _ (st : Station) (f : CanFrame) (now n : ℕ) (named : n ≡ source f) (b : Bool) (tested : b ≡ accepts n f) where
+module _ (st : Station) (f : CanFrame) (now n : ℕ) (named : n ≡ sourceOf f) (b : Bool) (tested : b ≡ acceptsFrame n f) where
   frame-by : Bool → After
   frame-by k =
-      cond k (atPlace st (source f) (λ j. heardAt st j (heardOf (motorAt st j) f now)) (tells st (checked.Refused refusal.FrameNotAccepted)))
-      (tells st (checked.Refused refusal.FrameNotAccepted))
+      cond k (atPlace st (sourceOf f) (λ j. heardAt st j (processFeedbackFrame (motorAt st j) f now)) (tell st (checked.Refused refusal.FrameNotAccepted)))
+      (tell st (checked.Refused refusal.FrameNotAccepted))
 
   decided : frame-by b ≡ frameIn st f now
   unfolding frameIn frame-by
-  decided = ap frame-by (tested ∙ ap (λ (k : ℕ). accepts k f) named)
+  decided = ap frame-by (tested ∙ ap (λ (k : ℕ). acceptsFrame k f) named)
 
-  pub frame-unheard : b ≡ false → (r : After) → r ≡ tells st (checked.Refused refusal.FrameNotAccepted) → r ≡ frameIn st f now
+  pub frame-unheard : b ≡ false → (r : After) → r ≡ tell st (checked.Refused refusal.FrameNotAccepted) → r ≡ frameIn st f now
   unfolding frame-by
   frame-unheard p r q = q ∙ sym (ap frame-by p) ∙ decided
 
   module _ (p : b ≡ true) (i : ℕ) (e : i ≡ takenPlace (st .motors) n) where
-    here : i ≡ takenPlace (st .motors) (source f)
+    here : i ≡ takenPlace (st .motors) (sourceOf f)
     here = e ∙ ap (λ (k : ℕ). takenPlace (st .motors) k) named
 
-    pub frame-found : i < 8 → (y : Motor) → y ≡ getD (st .motors) i freeMotor → (h : Heard) (r : After) → h ≡ heardOf y f now → r ≡ heardAt st i h
+    pub frame-found : i < 8 → (y : Motor) → y ≡ getD (st .motors) i freeMotor → (h : Heard) (r : After) → h ≡ processFeedbackFrame y f now → r ≡ heardAt st i h
         → r ≡ frameIn st f now
     unfolding frame-by
     frame-found l y at h r v q =
         q
-        ∙ ap (λ (k : Heard). heardAt st i k) (v ∙ ap (λ (m : Motor). heardOf m f now) at)
-        ∙ at-found st (source f) i (λ j. heardAt st j (heardOf (motorAt st j) f now)) (tells st (checked.Refused refusal.FrameNotAccepted)) here l
+        ∙ ap (λ (k : Heard). heardAt st i k) (v ∙ ap (λ (m : Motor). processFeedbackFrame m f now) at)
+        ∙ at-found st (sourceOf f) i (λ j. heardAt st j (processFeedbackFrame (motorAt st j) f now)) (tell st (checked.Refused refusal.FrameNotAccepted)) here l
         ∙ sym (ap frame-by p)
         ∙ decided
 
-    pub frame-none : 8 ≤ i → (r : After) → r ≡ tells st (checked.Refused refusal.FrameNotAccepted) → r ≡ frameIn st f now
+    pub frame-none : 8 ≤ i → (r : After) → r ≡ tell st (checked.Refused refusal.FrameNotAccepted) → r ≡ frameIn st f now
     unfolding frame-by
     frame-none l r q =
         q
-        ∙ at-none st (source f) i (λ j. heardAt st j (heardOf (motorAt st j) f now)) (tells st (checked.Refused refusal.FrameNotAccepted)) here l
+        ∙ at-none st (sourceOf f) i (λ j. heardAt st j (processFeedbackFrame (motorAt st j) f now)) (tell st (checked.Refused refusal.FrameNotAccepted)) here l
         ∙ sym (ap frame-by p)
         ∙ decided
 
 -- ---- a registration
 
 module _ (st : Station) (id host : ℕ) (model : Model) (wait time i : ℕ) (e : i ≡ takenPlace (st .motors) id) where
-  pub admitted-found : i < 8 → (r : After) → r ≡ tells st (checked.Refused refusal.IdRegistered) → r ≡ admittedIn st id host model wait time
+  pub admitted-found : i < 8 → (r : After) → r ≡ tell st (checked.Refused refusal.IdRegistered) → r ≡ admittedIn st id host model wait time
   unfolding admittedIn
-  admitted-found l r q = q ∙ at-found st id i (λ j. tells st (checked.Refused refusal.IdRegistered)) (enteredIn st (newMotor id host model wait time)) e l
+  admitted-found l r q = q ∙ at-found st id i (λ j. tell st (checked.Refused refusal.IdRegistered)) (enteredIn st (newMotor id host model wait time)) e l
 
-  module _ (l : 8 ≤ i) (k : ℕ) (f : k ≡ indexOf (st .motors) 0) where
+  module _ (l : 8 ≤ i) (k : ℕ) (f : k ≡ placeOf (st .motors) 0) where
     entered : (r : After) → r ≡ enteredIn st (newMotor id host model wait time) → r ≡ admittedIn st id host model wait time
     unfolding admittedIn
-    entered r q = q ∙ at-none st id i (λ j. tells st (checked.Refused refusal.IdRegistered)) (enteredIn st (newMotor id host model wait time)) e l
+    entered r q = q ∙ at-none st id i (λ j. tell st (checked.Refused refusal.IdRegistered)) (enteredIn st (newMotor id host model wait time)) e l
 
     pub admitted-room : k < 8 → (m : Motor) (after : Station) (r : After) → m ≡ newMotor id host model wait time → after ≡ withMotor st k m
-        → r ≡ tells after checked.Passed → r ≡ admittedIn st id host model wait time
+        → r ≡ tell after checked.Passed → r ≡ admittedIn st id host model wait time
     unfolding enteredIn
     admitted-room b m after r p w q =
         entered r
         (q
-        ∙ ap (λ (a : Station). tells a checked.Passed) (w ∙ ap (λ (y : Motor). withMotor st k y) p)
-        ∙ branch (indexOf (st .motors) 0) k (λ j. tells (withMotor st j (newMotor id host model wait time)) checked.Passed) (tells st (checked.Refused refusal.StationFull)) f b)
+        ∙ ap (λ (a : Station). tell a checked.Passed) (w ∙ ap (λ (y : Motor). withMotor st k y) p)
+        ∙ branch (placeOf (st .motors) 0) k (λ j. tell (withMotor st j (newMotor id host model wait time)) checked.Passed) (tell st (checked.Refused refusal.StationFull)) f b)
 
-    pub admitted-full : 8 ≤ k → (r : After) → r ≡ tells st (checked.Refused refusal.StationFull) → r ≡ admittedIn st id host model wait time
+    pub admitted-full : 8 ≤ k → (r : After) → r ≡ tell st (checked.Refused refusal.StationFull) → r ≡ admittedIn st id host model wait time
     unfolding enteredIn
     admitted-full b r q =
         entered r
         (q
-        ∙ pass (indexOf (st .motors) 0) k (tells (withMotor st (indexOf (st .motors) 0) (newMotor id host model wait time)) checked.Passed)
-        (tells st (checked.Refused refusal.StationFull)) f b)
+        ∙ pass (placeOf (st .motors) 0) k (tell (withMotor st (placeOf (st .motors) 0) (newMotor id host model wait time)) checked.Passed)
+        (tell st (checked.Refused refusal.StationFull)) f b)
 
 pub registered : (st : Station) (id host : ℕ) (model : ModelNamed) (wait time : ℕ) (k j : Admission) (r : After)
     → k ≡ registrationOf id host model wait time → k ≡ j → r ≡ registerBy j st id host wait time → r ≡ registerIn st id host model wait time

@@ -26,7 +26,7 @@ use Rattle.station.specs.declared.call.Call.the-variants as call
 use Rattle.station.specs.declared.station.Looked.{Looked}
 use Rattle.station.specs.declared.station.Station.{Station}
 use Rattle.station.specs.Calls.{start, frame, look, Reply, ok, shows, refused, refuses}
-use Rattle.station.specs.Station.{Place, empty, held, loneBy, route, source, stationBy, stationCall}
+use Rattle.station.specs.Station.{Place, empty, held, loneBy, route, sourceOf, stationBy, stationCall}
 use Rattle.station.specs.Stations.{Shows, shownBy, replyOf}
 use Rattle.station.specs.History.{after}
 use Rattle.station.specs.Demand2.{unrefused, sentIn, reading, In, telling, HeldReading, Demand2}
@@ -63,7 +63,7 @@ module _ (Gives : Station → Asked → Out → Type 0) where
       → (w : Out) → Gives st (start m (command.WriteParameter id v) time) w → unrefused (replyIn w) ≡ true
       → (st′ : Station) (t : List Place) → Shows st′ t → (f : CanFrame) (later : ℕ) → isRead f ≡ true → Carries (f .data) (sentIn (replyIn w) .data)
       → (r : Out) → Gives st′ (frame f later) r → replyIn r ≡ ok
-      → (l : Looked) → Gives (next st′ r) (look (source f)) (looked l)
+      → (l : Looked) → Gives (next st′ r) (look (sourceOf f)) (looked l)
       → (l .said ≡ checked.Passed) × (lookup id (readingsIn l) ≡ found.Held (record { value = v }))
 
   -- After any run of the code from a new station, the readings that a look shows came in its calls.
@@ -119,8 +119,8 @@ module _ (Gives : Station → Asked → Out → Type 0) (is-given : (st : Statio
       let k = taken-in t f later passed in
       let after = (stationCall t (frame f later)) .1 in
       let h = hears (k .by) f later .lone in
-      let e : held after (source f) ≡ some h = ap (λ (q : List Place). held q (source f)) (k .station) ∙ put-some t (source f) (k .by) h (k .was) in
-      let q = look-shows (next st′ r) after (heard .1) (source f) l b h e in (
+      let e : held after (sourceOf f) ≡ some h = ap (λ (q : List Place). held q (sourceOf f)) (k .station) ∙ put-some t (sourceOf f) (k .by) h (k .was) in
+      let q = look-shows (next st′ r) after (heard .1) (sourceOf f) l b h e in (
         q .0,
         ap (λ (es : List Entry). lookup id es) (q .1)
             ∙ sym (ap (reading id) e)

@@ -14,11 +14,11 @@ use Rattle.motor.specs.declared.engine.command.Command.the-variants as command
 use Rattle.motor.proofs.engine.Choices.{cond-yes, cond-no}
 use Rattle.motor.specs.Calls.{startSaid}
 use Rattle.motor.specs.Lone.{Lone, loneStartBy, loneStart, hears}
-use Rattle.motor.specs.Receive.{accepts}
+use Rattle.motor.specs.Receive.{acceptsFrame}
 use Rattle.motor.proofs.Echo.{Carries, echo}
 use Rattle.station.specs.declared.call.Call.the-variants as call
 use Rattle.station.specs.Calls.{start, frame, Reply, ok, no, says, answered, refused, refuses}
-use Rattle.station.specs.Station.{Place, free, taken, held, put, place, movesTo, hearsTo, loneBy, route, source, stationBy, stationCall}
+use Rattle.station.specs.Station.{Place, free, taken, held, put, place, movesTo, hearsTo, loneBy, route, sourceOf, stationBy, stationCall}
 use Rattle.station.specs.History.{isOk}
 use Rattle.station.specs.Demand2.{unrefused, sentIn, reading, Echo}
 
@@ -42,25 +42,25 @@ not-ok r e q = absurd (true≢false (sym (ap (λ (x : Reply). isOk (x .replied .
 
 pub record Taken (s : List Place) (f : CanFrame) (time : ℕ) : Type 0 where
   pub by : Lone
-  pub accepted : accepts (source f) f ≡ true
-  pub was : held s (source f) ≡ some by
+  pub accepted : acceptsFrame (sourceOf f) f ≡ true
+  pub was : held s (sourceOf f) ≡ some by
   pub passed : hears by f time .said ≡ checked.Passed
-  pub station : (stationCall s (frame f time)) .1 ≡ put s (source f) (some (hears by f time .lone))
+  pub station : (stationCall s (frame f time)) .1 ≡ put s (sourceOf f) (some (hears by f time .lone))
 
 -- where a frame goes, by whether it is accepted and what is held for its source
 abbrev pub to : List Place → CanFrame → ℕ → Bool → Option Lone → Reply × List Place
 to s f time b o =
-    cond b (route s (source f) o (refuses (call.Frame time) refusal.FrameNotAccepted) (λ h. loneBy h (call.Frame time) f)) (no refusal.FrameNotAccepted, s)
+    cond b (route s (sourceOf f) o (refuses (call.Frame time) refusal.FrameNotAccepted) (λ h. loneBy h (call.Frame time) f)) (no refusal.FrameNotAccepted, s)
 
 pub taken-in : (s : List Place) (f : CanFrame) (time : ℕ) → (stationCall s (frame f time)) .0 ≡ ok → Taken s f time
 unfolding stationBy route refused loneBy hearsTo isOk
-taken-in s f time e = go (accepts (source f) f) (held s (source f)) refl refl e
+taken-in s f time e = go (acceptsFrame (sourceOf f) f) (held s (sourceOf f)) refl refl e
   where
     passes : (k : Checked) → answered k ≡ ok → k ≡ checked.Passed
     passes checked.Passed q = refl
     passes (checked.Refused r) q = not-ok (no r) refl q
 
-    go : (b : Bool) (o : Option Lone) → accepts (source f) f ≡ b → held s (source f) ≡ o → (to s f time b o) .0 ≡ ok → Taken s f time
+    go : (b : Bool) (o : Option Lone) → acceptsFrame (sourceOf f) f ≡ b → held s (sourceOf f) ≡ o → (to s f time b o) .0 ≡ ok → Taken s f time
     go false o p q e = not-ok (no refusal.FrameNotAccepted) refl e
     go true none p q e = not-ok (no refusal.FrameNotAccepted) refl e
     go true (some h) p q e =
@@ -69,7 +69,7 @@ taken-in s f time e = go (accepts (source f) f) (held s (source f)) refl refl e
           accepted = p;
           was = q;
           passed = passes (hears h f time .said) e;
-          station = ap (λ (b : Bool). (to s f time b (held s (source f))) .1) p ∙ ap (λ (o : Option Lone). (to s f time true o) .1) q;
+          station = ap (λ (b : Bool). (to s f time b (held s (sourceOf f))) .1) p ∙ ap (λ (o : Option Lone). (to s f time true o) .1) q;
         }
 
 -- ---- a write that isn't refused
@@ -108,8 +108,8 @@ station-echo s m id v time range e t f later read carries q =
     let b = began s m (command.WriteParameter id v) time e in
     let x = taken-in t f later q in
     let heard = hears (x .by) f later .lone in
-    ap (λ (p : List Place). reading id (held p (source f))) (x .station)
-    ∙ ap (reading id) (put-some t (source f) (x .by) heard (x .was))
+    ap (λ (p : List Place). reading id (held p (sourceOf f))) (x .station)
+    ∙ ap (reading id) (put-some t (sourceOf f) (x .by) heard (x .was))
     ∙ echo (b .by) id v time (b .passed) range (x .by) f later read
     (subst (λ (g : CanFrame). Carries (f .data) (g .data)) (b .answer) carries)
     (x .passed)

@@ -13,14 +13,14 @@ use Rattle.motor.specs.declared.registration.Admission.{Admission}
 use Rattle.motor.specs.declared.registration.Admission.the-variants as admission
 use Rattle.motor.specs.Calls.{registrationOf}
 use Rattle.motor.specs.Motors.{newMotor, startOf, stepOf, removalOf}
-use Rattle.motor.specs.Receive.{accepts, heardOf}
+use Rattle.motor.specs.Receive.{acceptsFrame, processFeedbackFrame}
 use Rattle.station.specs.declared.station.Station.{Station}
 use Rattle.station.specs.declared.station.After.{After}
 use Rattle.station.specs.declared.call.Asked.{Asked}
 use Rattle.station.specs.declared.call.Call.{Call}
 use Rattle.station.specs.declared.call.Call.the-variants as call
-use Rattle.station.specs.Station.{source}
-use Rattle.station.specs.Stations.{freeMotor, indexOf, takenPlace, motorAt, withMotor, atPlace, tells, movedAt, unmoved, heardAt, removedAt, enteredIn, admittedIn, registerBy, registerIn, startIn, stepIn, frameIn, removeIn}
+use Rattle.station.specs.Station.{sourceOf}
+use Rattle.station.specs.Stations.{freeMotor, placeOf, takenPlace, motorAt, withMotor, atPlace, tell, movedAt, notMoved, heardAt, removedAt, enteredIn, admittedIn, registerBy, registerIn, startIn, stepIn, frameIn, removeIn}
 use Rattle.station.proofs.Contracts.{Out, next, givenBy, given}
 
 -- ---- a choice, and what is done at the place of an id
@@ -39,10 +39,10 @@ at-place P st id found none p q =
 
 -- the place that a call is for: the first free one for a registration, else that of the id
 unfoldable pub placeBy : Station → Call → CanFrame → ℕ
-placeBy st (call.Register m h k w t) f = indexOf (st .motors) 0
+placeBy st (call.Register m h k w t) f = placeOf (st .motors) 0
 placeBy st (call.Start m c t) f = takenPlace (st .motors) m
 placeBy st (call.Step m t) f = takenPlace (st .motors) m
-placeBy st (call.Frame t) f = takenPlace (st .motors) (source f)
+placeBy st (call.Frame t) f = takenPlace (st .motors) (sourceOf f)
 placeBy st (call.Look m) f = takenPlace (st .motors) m
 placeBy st (call.Remove m t) f = takenPlace (st .motors) m
 
@@ -64,18 +64,18 @@ module _ (st : Station) where
   removed-else checked.Passed p i e = put-there p i freeMotor e
   removed-else (checked.Refused r) p i e = λ j z. refl
 
-  entered-else : (m : Motor) → Else (indexOf (st .motors) 0) (enteredIn st m)
+  entered-else : (m : Motor) → Else (placeOf (st .motors) 0) (enteredIn st m)
   unfolding enteredIn
   entered-else m =
-      let k = indexOf (st .motors) 0 in
-      either (Else k) (ltb k 8) (tells (withMotor st k m) checked.Passed) (tells st (checked.Refused refusal.StationFull))
+      let k = placeOf (st .motors) 0 in
+      either (Else k) (ltb k 8) (tell (withMotor st k m) checked.Passed) (tell st (checked.Refused refusal.StationFull))
       (put-there k k m refl)
       (λ j z. refl)
 
-  registered-else : (a : Admission) (id host wait time : ℕ) → Else (indexOf (st .motors) 0) (registerBy a st id host wait time)
+  registered-else : (a : Admission) (id host wait time : ℕ) → Else (placeOf (st .motors) 0) (registerBy a st id host wait time)
   unfolding admittedIn
   registered-else (admission.Admitted model) id host wait time =
-      at-place (Else (indexOf (st .motors) 0)) st id (λ i. tells st (checked.Refused refusal.IdRegistered))
+      at-place (Else (placeOf (st .motors) 0)) st id (λ i. tell st (checked.Refused refusal.IdRegistered))
       (enteredIn st (newMotor id host model wait time))
       (λ i p j z. refl)
       (entered-else (newMotor id host model wait time))
@@ -85,25 +85,25 @@ module _ (st : Station) where
   unfolding givenBy next placeBy registerIn startIn stepIn frameIn removeIn
   given-else (call.Register m h k w t) f = registered-else (registrationOf m h k w t) m h w t
   given-else (call.Start m c t) f =
-      at-place (Else (takenPlace (st .motors) m)) st m (λ i. movedAt st i (startOf (motorAt st i) c t)) (unmoved st)
+      at-place (Else (takenPlace (st .motors) m)) st m (λ i. movedAt st i (startOf (motorAt st i) c t)) (notMoved st)
       (λ i p. put-there _ i (startOf (motorAt st i) c t .motor) p)
       (λ j z. refl)
   given-else (call.Step m t) f =
-      at-place (Else (takenPlace (st .motors) m)) st m (λ i. movedAt st i (stepOf (motorAt st i) t)) (unmoved st)
+      at-place (Else (takenPlace (st .motors) m)) st m (λ i. movedAt st i (stepOf (motorAt st i) t)) (notMoved st)
       (λ i p. put-there _ i (stepOf (motorAt st i) t .motor) p)
       (λ j z. refl)
   given-else (call.Frame t) f =
-      let other = tells st (checked.Refused refusal.FrameNotAccepted) in
-      let found : ℕ → After = λ i. heardAt st i (heardOf (motorAt st i) f t) in
-      either (Else (takenPlace (st .motors) (source f))) (accepts (source f) f) (atPlace st (source f) found other) other
-      (at-place (Else (takenPlace (st .motors) (source f))) st (source f) found other
-      (λ i p. put-there _ i (heardOf (motorAt st i) f t .motor) p)
+      let other = tell st (checked.Refused refusal.FrameNotAccepted) in
+      let found : ℕ → After = λ i. heardAt st i (processFeedbackFrame (motorAt st i) f t) in
+      either (Else (takenPlace (st .motors) (sourceOf f))) (acceptsFrame (sourceOf f) f) (atPlace st (sourceOf f) found other) other
+      (at-place (Else (takenPlace (st .motors) (sourceOf f))) st (sourceOf f) found other
+      (λ i p. put-there _ i (processFeedbackFrame (motorAt st i) f t .motor) p)
       (λ j z. refl))
       (λ j z. refl)
   given-else (call.Look m) f = λ j z. refl
   given-else (call.Remove m t) f =
       at-place (Else (takenPlace (st .motors) m)) st m (λ i. removedAt (removalOf (motorAt st i) t) st i)
-      (tells st (checked.Refused refusal.IdNotRegistered))
+      (tell st (checked.Refused refusal.IdNotRegistered))
       (λ i p. removed-else (removalOf (motorAt st i) t) (takenPlace (st .motors) m) i p)
       (λ j z. refl)
 

@@ -17,25 +17,25 @@ use Rattle.codec.specs.declared.model.ModelNamed.{ModelNamed}
 use Rattle.codec.specs.declared.model.ModelNamed.the-variants as named
 use Rattle.codec.specs.declared.registers.ParameterDataType.{ParameterDataType}
 use Rattle.codec.specs.declared.registers.ParameterInfo.the-variants as info
-use Rattle.codec.specs.Kinds.{infoOf}
+use Rattle.codec.specs.Kinds.{parameterInfo}
 use Rattle.codec.specs.Values.{kindIn}
 use Rattle.motor.specs.declared.engine.command.Command.{Command}
 use Rattle.motor.specs.declared.engine.operation.Effect.{Effect}
 use Rattle.motor.specs.declared.engine.operation.Effect.the-variants as effect
-use Rattle.motor.specs.engine.Run.{advance, begin}
+use Rattle.motor.specs.engine.Run.{advanced, begunBy}
 use Rattle.motor.specs.declared.readings.Entry.{Entry}
 use Rattle.motor.specs.Calls.{sightOf, wanted, readingsBy, startSaid, stepSaid}
 use Rattle.motor.specs.Lone.{Lone, loneNew, loneStartBy, loneStepBy, hears, loneRemoval}
 use Rattle.motor.specs.Numbers.{firstOf}
 use Rattle.motor.specs.Readings.{entry, lookup, insert, remove, room}
-use Rattle.motor.specs.Receive.{accepts, late, isRead, readStatus, readId, readStored, frameSaid, readingsAfter}
+use Rattle.motor.specs.Receive.{acceptsFrame, isLate, isRead, readStatus, readId, readStored, frameSaid, readingsAfter}
 use Rattle.motor.proofs.Echo.{WrittenOut, heard-held, written-out}
 use Rattle.motor.proofs.ReceivingTheorems.{heldKind, kinds-held}
 use Rattle.station.specs.declared.call.Asked.{Asked}
 use Rattle.station.specs.declared.call.Call.{Call}
 use Rattle.station.specs.declared.call.Call.the-variants as call
 use Rattle.station.specs.Calls.{frame, Reply, ok, no, answered}
-use Rattle.station.specs.Station.{Place, free, taken, empty, held, add, put, place, leaves, movesTo, hearsTo, loneBy, route, admission, enter, admit, source, toSource, stationBy, stationCall}
+use Rattle.station.specs.Station.{Place, free, taken, empty, held, add, put, place, leaves, movesTo, hearsTo, loneBy, route, admission, enter, admit, sourceOf, toSource, stationBy, stationCall}
 use Rattle.station.specs.History.{Told, after}
 use Rattle.station.specs.Demand2.{In, telling, Came, HeldReading, Readings}
 use Rattle.station.proofs.EchoAtStation.{to}
@@ -86,13 +86,13 @@ module _ (P : Entry → Type 0) where
   each-moved (effect.HoldGains g) l a = a
 
   each-start : (k : Checked) (h : Lone) (c : Command) (now : ℕ) → Each P (h .readings) → Each P (loneStartBy k h c now .lone .readings)
-  each-start checked.Passed h c now a = each-moved (begin (sightOf (h .state)) now c .effect) (h .readings) a
+  each-start checked.Passed h c now a = each-moved (begunBy (sightOf (h .state)) now c .effect) (h .readings) a
   each-start (checked.Refused r) h c now a = a
 
   each-step : (k : Checked) (h : Lone) (now : ℕ) → Each P (h .readings) → Each P (loneStepBy k h now .lone .readings)
   each-step checked.Passed h now a =
       let op = h .state .operation in
-      each-moved (advance (sightOf (h .state)) now op (wanted (op .phase) (λ id. lookup id (h .readings))) (op .phase) .effect) (h .readings) a
+      each-moved (advanced (sightOf (h .state)) now op (wanted (op .phase) (λ id. lookup id (h .readings))) (op .phase) .effect) (h .readings) a
   each-step (checked.Refused r) h now a = a
 
   each-heard : (h : Lone) (f : CanFrame) (now : ℕ)
@@ -136,15 +136,15 @@ EachAt P (taken i h ∷ s) = Each (P i) (h .readings) × EachAt P s
 -- of what a read reply with status zero puts, where it isn't refused
 abbrev Frames : (ℕ → Entry → Type 0) → List Place → Call → CanFrame → Type 0
 Frames P s c f =
-    OfFrame (λ time. (stationCall s (frame f time)) .0 ≡ ok → accepts (source f) f ≡ true → isRead f ≡ true → readStatus f ≡ 0
-    → P (source f) (entry (readId f) (readStored f))) c
+    OfFrame (λ time. (stationCall s (frame f time)) .0 ≡ ok → acceptsFrame (sourceOf f) f ≡ true → isRead f ≡ true → readStatus f ≡ 0
+    → P (sourceOf f) (entry (readId f) (readStored f))) c
 
 -- a read reply that passes has status zero
 zero-status : (h : Lone) (f : CanFrame) (now : ℕ) → hears h f now .said ≡ checked.Passed → isRead f ≡ true → readStatus f ≡ 0
 unfolding hears frameSaid
 zero-status h f now e r =
     same-id (readStatus f) 0
-    (go (not (accepts (h .state .«motor_id») f)) (late (h .state .clock) now) (isRead f) (eqb (readStatus f) 0) (not (room (readId f) (h .readings))) r e)
+    (go (not (acceptsFrame (h .state .«motor_id») f)) (isLate (h .state .clock) now) (isRead f) (eqb (readStatus f) 0) (not (room (readId f) (h .readings))) r e)
   where
     go : (a b c d e : Bool) → c ≡ true
         → firstOf ((a, refusal.FrameNotAccepted) ∷ (b, refusal.TimeOutOfRange) ∷ (c && not d, refusal.ReadFailed (readId f) (readStatus f)) ∷ (c && e, refusal.ReadingsFull) ∷ []) ≡ checked.Passed
@@ -202,12 +202,12 @@ module _ (P : ℕ → Entry → Type 0) where
 
   each-frame : (s : List Place) (f : CanFrame) (time : ℕ) → Frames P s (call.Frame time) f → EachAt P s → EachAt P ((stationBy s (call.Frame time) f) .1)
   unfolding stationBy route loneBy hearsTo
-  each-frame s f time p a = go (accepts (source f) f) refl
+  each-frame s f time p a = go (acceptsFrame (sourceOf f) f) refl
     where
-      go : (b : Bool) → accepts (source f) f ≡ b → EachAt P ((cond b (toSource s f time) (no refusal.FrameNotAccepted, s)) .1)
+      go : (b : Bool) → acceptsFrame (sourceOf f) f ≡ b → EachAt P ((cond b (toSource s f time) (no refusal.FrameNotAccepted, s)) .1)
       go true q =
-          each-route s (source f) (held s (source f)) _ (call.Frame time) f refl
-          (λ h e k r. p (ap (λ (b : Bool). (to s f time b (held s (source f))) .0) q ∙ ap (λ (o : Option Lone). (to s f time true o) .0) e ∙ ap answered k) q r (zero-status h f time k r))
+          each-route s (sourceOf f) (held s (sourceOf f)) _ (call.Frame time) f refl
+          (λ h e k r. p (ap (λ (b : Bool). (to s f time b (held s (sourceOf f))) .0) q ∙ ap (λ (o : Option Lone). (to s f time true o) .0) e ∙ ap answered k) q r (zero-status h f time k r))
           a
       go false q = a
 
@@ -223,8 +223,8 @@ module _ (P : ℕ → Entry → Type 0) where
   -- of whole lists of calls
   abbrev Put : List Told → Type 0
   Put told =
-      (f : CanFrame) (time : ℕ) → In (frame f time, ok) told → accepts (source f) f ≡ true → isRead f ≡ true → readStatus f ≡ 0
-      → P (source f) (entry (readId f) (readStored f))
+      (f : CanFrame) (time : ℕ) → In (frame f time, ok) told → acceptsFrame (sourceOf f) f ≡ true → isRead f ≡ true → readStatus f ≡ 0
+      → P (sourceOf f) (entry (readId f) (readStored f))
 
   put-first : (s : List Place) (c : Call) (f : CanFrame) (told : List Told) → Put ((record { call = c; frame = f }, (stationBy s c f) .0) ∷ told) → Frames P s c f
   put-first s (call.Register m host model wait time) f told p = tt
@@ -248,8 +248,8 @@ module _ (P : ℕ → Entry → Type 0) where
 -- ---- a reading that came in a reply
 
 -- a lone motor that takes the reply
-passes : (m : ℕ) (f : CanFrame) → accepts m f ≡ true → isRead f ≡ true → readStatus f ≡ 0 → hears (loneNew m 0 Rs00 0 0) f 0 .said ≡ checked.Passed
-unfolding hears frameSaid late
+passes : (m : ℕ) (f : CanFrame) → acceptsFrame m f ≡ true → isRead f ≡ true → readStatus f ≡ 0 → hears (loneNew m 0 Rs00 0 0) f 0 .said ≡ checked.Passed
+unfolding hears frameSaid isLate
 passes m f a r z = rw (a, r, z)
 
 read-as : (m : ℕ) (told : List Told) (e : Entry) → Came m told e → HeldReading m told e
@@ -260,7 +260,7 @@ read-as m told e c =
       came = c;
       kind = subst (λ (x : Entry). kindIn (x .held .value) ≡ heldKind (x .id)) (c .same) (kinds-held f);
       written-out =
-          subst (λ (x : Entry). (k : ParameterDataType) → infoOf (x .id) ≡ info.Listed k → ((i : ℕ) → getD (f .data) i 0 < 256)
+          subst (λ (x : Entry). (k : ParameterDataType) → parameterInfo (x .id) ≡ info.Listed k → ((i : ℕ) → getD (f .data) i 0 < 256)
           → WrittenOut (x .id) (x .held .value) k (f .data)) (c .same)
           (λ k listed small.
           written-out (loneNew m 0 Rs00 0 0) f 0 (c .read) p small k listed (readStored f) (heard-held (loneNew m 0 Rs00 0 0) f 0 (c .read) p));

@@ -11,7 +11,7 @@ use Rattle.motor.specs.Lone.{Lone, loneLook}
 use Rattle.station.specs.declared.call.Asked.{Asked}
 use Rattle.station.specs.declared.station.Station.{Station}
 use Rattle.station.specs.Calls.{start, step, frame, remove, Reply, ok, shows}
-use Rattle.station.specs.Station.{Place, held, Distinct, source, stationCall}
+use Rattle.station.specs.Station.{Place, held, Distinct, sourceOf, stationCall}
 use Rattle.station.specs.Stations.{freeMotor, motorAt, withMotor, Shows}
 use Rattle.station.specs.History.{mine}
 use Rattle.station.specs.Demands.{inert, number, numbersOf, raised, failed}
@@ -26,8 +26,8 @@ module _ (Gives : Station → Asked → Out → Type 0) where
   pub record CodeKept (st : Station) (s : List Place) : Type 0 where
     pub others : (a : Asked) (o : Out) → Gives st a o → (m : ℕ) → mine m a ≡ false → seen (next st o) m ≡ seen st m
     pub freed : (m now : ℕ) (o : Out) → Gives st (remove m now) o → replyIn o ≡ ok → seen (next st o) m ≡ shown none
-    pub counted : (f : CanFrame) (now : ℕ) (o : Out) (h : Lone) → Gives st (frame f now) o → held s (source f) ≡ some h
-        → among (number (replyIn o)) (14 ∷ 15 ∷ []) ≡ true → seen (next st o) (source f) ≡ shows (loneLook (raised h now))
+    pub counted : (f : CanFrame) (now : ℕ) (o : Out) (h : Lone) → Gives st (frame f now) o → held s (sourceOf f) ≡ some h
+        → among (number (replyIn o)) (14 ∷ 15 ∷ []) ≡ true → seen (next st o) (sourceOf f) ≡ shows (loneLook (raised h now))
     pub ended : (m now : ℕ) (o : Out) (h : Lone) → Gives st (step m now) o → held s m ≡ some h
         → among (number (replyIn o)) (16 ∷ 17 ∷ 18 ∷ 20 ∷ []) ≡ true → seen (next st o) m ≡ shows (loneLook (failed h now))
     pub numbers : (a : Asked) (o : Out) → Gives st a o → among (number (replyIn o)) (numbersOf (a .call)) ≡ true
@@ -73,7 +73,7 @@ module _ (Gives : Station → Asked → Out → Type 0) (is-given : (st : Statio
           others = λ a o g m e. seen-after a o g m (held s m) (λ r. Unit {0}) (λ u. demand1 .others s m a e) tt ∙ sym (seen-is st s m x);
           freed = λ m now o g. seen-after (remove m now) o g m none (λ r. r ≡ ok) (demand1 .freed s m now d);
           counted = λ f now o h g q.
-              seen-after (frame f now) o g (source f) (some (raised h now)) (λ r. among (number r) (14 ∷ 15 ∷ []) ≡ true) (demand1 .counted s f now h d q);
+              seen-after (frame f now) o g (sourceOf f) (some (raised h now)) (λ r. among (number r) (14 ∷ 15 ∷ []) ≡ true) (demand1 .counted s f now h d q);
           ended = λ m now o h g q.
               seen-after (step m now) o g m (some (failed h now)) (λ r. among (number r) (16 ∷ 17 ∷ 18 ∷ 20 ∷ []) ≡ true) (demand1 .ended s m now h d q);
           numbers = λ a o g. says-so a o g (λ r. among (number r) (numbersOf (a .call)) ≡ true) (demand1 .numbers s a);

@@ -20,15 +20,15 @@ use Rattle.motor.specs.Calls.{registerNumbers, startSaid, stepSaid}
 use Rattle.motor.specs.Lone.{Lone, LoneAnswered, LoneHeard, loneStart, loneStep, hears, loneLook, loneRemoval}
 use Rattle.motor.specs.Motors.{startBy, startOf, stepBy, stepOf, lookOf, removalOf, loneOf, AnsweredAs, HeardAs}
 use Rattle.motor.specs.Numbers.{firstOf}
-use Rattle.motor.specs.Receive.{accepts, stateAfter, told as tells, counted, heardOf}
+use Rattle.motor.specs.Receive.{acceptsFrame, stateAfter, toldBy as tells, countedAt, processFeedbackFrame}
 use Rattle.motor.proofs.LoneOperating.{start-both, step-both, look-both}
 use Rattle.motor.proofs.LoneReceiving.{heard-both}
 use Rattle.station.specs.declared.station.Station.{Station}
 use Rattle.station.specs.Calls.{register, start, step, frame, look, remove}
 use Rattle.station.specs.Calls.{says, answered, refused}
-use Rattle.station.specs.Station.{Place, held, put, place, empty, source}
+use Rattle.station.specs.Station.{Place, held, put, place, empty, sourceOf}
 use Rattle.station.specs.Station.{movesTo, hearsTo, leaves, loneBy, route, admission, stationBy, stationCall}
-use Rattle.station.specs.Stations.{freeMotor, newStation, indexOf, takenPlace, motorAt, atPlace, movedAt, heardAt, removedAt, registerIn, startIn, stepIn, frameIn, lookIn, removeIn}
+use Rattle.station.specs.Stations.{freeMotor, newStation, placeOf, takenPlace, motorAt, atPlace, movedAt, heardAt, removedAt, registerIn, startIn, stepIn, frameIn, lookIn, removeIn}
 use Rattle.station.specs.Stations.{TakenAs, Shows, LeavesAs, replyOf}
 use Rattle.station.proofs.Index.{free-places}
 use Rattle.station.proofs.Admitting.{by-tests}
@@ -58,16 +58,16 @@ step-id checked.Passed m now = refl
 step-id (checked.Refused r) m now = refl
 
 hear-id : (k : Checked) (a : State) (f : CanFrame) (now : ℕ) → (stateAfter k a f now) .«motor_id» ≡ a .«motor_id»
-unfolding stateAfter tells counted
+unfolding stateAfter tells countedAt
 hear-id checked.Passed a f now = refl
 hear-id (checked.Refused r) a f now = go (among (numberOf r) (14 ∷ 15 ∷ []))
   where
-    go : (b : Bool) → (cond b (counted a now) a) .«motor_id» ≡ a .«motor_id»
+    go : (b : Bool) → (cond b (countedAt a now) a) .«motor_id» ≡ a .«motor_id»
     go true = refl
     go false = refl
 
-module _ (st : Station) (s : List Place) (x : Shows st s) (m : ℕ) (z : m ≡ 0 → ⊥) (e : takenPlace (st .motors) m ≡ indexOf (st .motors) m)
-    (l : indexOf (st .motors) m < length (st .motors)) where
+module _ (st : Station) (s : List Place) (x : Shows st s) (m : ℕ) (z : m ≡ 0 → ⊥) (e : takenPlace (st .motors) m ≡ placeOf (st .motors) m)
+    (l : placeOf (st .motors) m < length (st .motors)) where
   moved-means : (a : Answered) (b : LoneAnswered) → AnsweredAs a b → a .motor .state .«motor_id» ≡ m
       → LeavesAs (movedAt st (takenPlace (st .motors) m) a) (says (b .said) (b .frame) (b .result), put s m (some (b .lone)))
   unfolding place
@@ -93,8 +93,8 @@ module _ (st : Station) (s : List Place) (x : Shows st s) (m : ℕ) (z : m ≡ 0
   removed-means h q checked.Passed = record { answer = refl; station = shows-put st s x m z e l none freeMotor refl }
   removed-means h q (checked.Refused r) = record { answer = refl; station = rw (put-held s m h q) x }
 
-heard-id : (m : Motor) (f : CanFrame) (now : ℕ) → (heardOf m f now) .motor .state .«motor_id» ≡ m .state .«motor_id»
-unfolding heardOf
+heard-id : (m : Motor) (f : CanFrame) (now : ℕ) → (processFeedbackFrame m f now) .motor .state .«motor_id» ≡ m .state .«motor_id»
+unfolding processFeedbackFrame
 heard-id m f now = hear-id _ (m .state) f now
 
 -- ---- each call
@@ -130,16 +130,16 @@ module _ (st : Station) (s : List Place) (x : Shows st s) where
 
   pub frame-means : (f : CanFrame) (now : ℕ) → LeavesAs (frameIn st f now) (stationCall s (frame f now))
   unfolding frameIn atPlace stationBy route refused loneBy hearsTo
-  frame-means f now = go (accepts (source f) f) refl (where-is st s x (source f))
+  frame-means f now = go (acceptsFrame (sourceOf f) f) refl (where-is st s x (sourceOf f))
     where
-      go : (b : Bool) → accepts (source f) f ≡ b → Where st s x (source f) → LeavesAs (frameIn st f now) (stationCall s (frame f now))
+      go : (b : Bool) → acceptsFrame (sourceOf f) f ≡ b → Where st s x (sourceOf f) → LeavesAs (frameIn st f now) (stationCall s (frame f now))
       go false a v = rw a (record { answer = refl; station = x })
       go true a (absent p q) = rw (a, p, q) (record { answer = refl; station = x })
       go true a (present p z e l h q t) =
-          let y = motorAt st (takenPlace (st .motors) (source f)) in
-          let w = subst (λ (k : Lone). HeardAs (heardOf y f now) (hears k f now)) (lone-at y (source f) h t)
-          (heard-both y f now (heardOf y f now) refl .1 (h .readings) (t .readings)) in
-          rw (a, p, q) (heard-means st s x (source f) z e l (heardOf y f now) (hears h f now) w (heard-id y f now ∙ t .id))
+          let y = motorAt st (takenPlace (st .motors) (sourceOf f)) in
+          let w = subst (λ (k : Lone). HeardAs (processFeedbackFrame y f now) (hears k f now)) (lone-at y (sourceOf f) h t)
+          (heard-both y f now (processFeedbackFrame y f now) refl .1 (h .readings) (t .readings)) in
+          rw (a, p, q) (heard-means st s x (sourceOf f) z e l (processFeedbackFrame y f now) (hears h f now) w (heard-id y f now ∙ t .id))
 
   -- ---- a look
 

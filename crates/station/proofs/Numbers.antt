@@ -19,10 +19,10 @@ use Rattle.motor.specs.declared.engine.command.Said.the-variants as said
 use Rattle.motor.specs.declared.engine.operation.Effect.{Effect}
 use Rattle.motor.specs.declared.engine.operation.Operation.{Operation}
 use Rattle.motor.specs.declared.engine.operation.Phase.{Phase}
-use Rattle.motor.specs.engine.Run.{advance}
+use Rattle.motor.specs.engine.Run.{advanced}
 use Rattle.motor.specs.Calls.{registerNumbers, isIdle, stepSaid, sightOf, wanted}
 use Rattle.motor.specs.Lone.{Lone, loneStep, loneStepBy, hears}
-use Rattle.motor.specs.Receive.{accepts, late, readId, frameNumbers, frameSaid}
+use Rattle.motor.specs.Receive.{acceptsFrame, isLate, readId, frameNumbers, frameSaid}
 use Rattle.motor.specs.Readings.{lookup, room}
 use Rattle.motor.proofs.Ends.{Closed, advance-ends}
 use Rattle.motor.proofs.Stays.{running}
@@ -30,7 +30,7 @@ use Rattle.station.specs.declared.call.Asked.{Asked}
 use Rattle.station.specs.declared.call.Call.{Call}
 use Rattle.station.specs.declared.call.Call.the-variants as call
 use Rattle.station.specs.Calls.{start, frame, no, says, refused, Reply}
-use Rattle.station.specs.Station.{Place, held, full, isSome, movesTo, hearsTo, loneBy, route, admission, enter as takesIn, admit, source, toSource, stationBy, stationCall}
+use Rattle.station.specs.Station.{Place, held, full, isSome, movesTo, hearsTo, loneBy, route, admission, enter as takesIn, admit, sourceOf, toSource, stationBy, stationCall}
 use Rattle.station.specs.Demands.{checkedNumber, number, numbersOf}
 use Rattle.station.proofs.NumberLists.{every, of-each, outside, of-first}
 use Rattle.station.proofs.Starts.{startNumbers, start-number}
@@ -56,15 +56,15 @@ step-number h now = go (stepSaid (h .state .clock) p now) refl (of-first (λ n. 
     p = h .state .operation .phase
 
     tests : List (Bool × Refusal)
-    tests = (late (h .state .clock) now, refusal.TimeOutOfRange) ∷ (isIdle p, refusal.NothingRunning) ∷ []
+    tests = (isLate (h .state .clock) now, refusal.TimeOutOfRange) ∷ (isIdle p, refusal.NothingRunning) ∷ []
 
     go : (k : Checked) → stepSaid (h .state .clock) p now ≡ k → among (checkedNumber k) stepNumbers ≡ true
         → among (number ((movesTo (loneStepBy k h now)) .0)) stepNumbers ≡ true
     go checked.Passed q e =
         let f = wanted p (λ id. lookup id (h .readings)) in
-        let v = advance (sightOf (h .state)) now (h .state .operation) f p in
+        let v = advanced (sightOf (h .state)) now (h .state .operation) f p in
         closed-number (v .said) (v .operation) (v .effect) (v .frame) (v .result)
-        (advance-ends (sightOf (h .state)) now (h .state .operation) f p (running (late (h .state .clock) now) (isIdle p) q))
+        (advance-ends (sightOf (h .state)) now (h .state .operation) f p (running (isLate (h .state .clock) now) (isIdle p) q))
     go (checked.Refused r) q e = e
 
 -- ---- the six calls
@@ -90,21 +90,21 @@ numbers-by s (call.Register m host model wait time) f =
     (registerNumbers m host model wait time ++ ((isSome (held s m), refusal.IdRegistered) ∷ (full s, refusal.StationFull) ∷ [])) refl)
 numbers-by s (call.Start m c now) f = route-number startNumbers s m (held s m) _ _ refl (λ h. start-number h c now)
 numbers-by s (call.Step m now) f = route-number stepNumbers s m (held s m) _ _ refl (λ h. step-number h now)
-numbers-by s (call.Frame now) f = go (accepts (source f) f)
+numbers-by s (call.Frame now) f = go (acceptsFrame (sourceOf f) f)
   where
     ns : List ℕ
     ns = 0 ∷ 13 ∷ 7 ∷ 14 ∷ 15 ∷ []
 
     go : (b : Bool) → among (number ((cond b (toSource s f now) (no refusal.FrameNotAccepted, s)) .0)) ns ≡ true
     go true =
-        route-number ns s (source f) (held s (source f)) _ _ refl
+        route-number ns s (sourceOf f) (held s (sourceOf f)) _ _ refl
         (λ h. of-first (λ n. among n ns) (frameNumbers (h .state) f now (not (room (readId f) (h .readings)))) refl)
     go false = refl
 numbers-by s (call.Look m) f = route-number (0 ∷ 6 ∷ []) s m (held s m) _ _ refl (λ h. refl)
 numbers-by s (call.Remove m now) f =
     route-number (0 ∷ 6 ∷ 7 ∷ 8 ∷ []) s m (held s m) _ _ refl
     (λ h. of-first (λ n. among n (0 ∷ 6 ∷ 7 ∷ 8 ∷ []))
-    ((late (h .state .clock) now, refusal.TimeOutOfRange) ∷ (not (isIdle (h .state .operation .phase)), refusal.OperationRunning) ∷ []) refl)
+    ((isLate (h .state .clock) now, refusal.TimeOutOfRange) ∷ (not (isIdle (h .state .operation .phase)), refusal.OperationRunning) ∷ []) refl)
 
 pub call-numbers : (s : List Place) (a : Asked) → among (number ((stationCall s a) .0)) (numbersOf (a .call)) ≡ true
 call-numbers s a = numbers-by s (a .call) (a .frame)

@@ -18,14 +18,14 @@ use Rattle.codec.specs.Refusals.{numberOf}
 use Rattle.motor.specs.declared.engine.command.Said.{Said}
 use Rattle.motor.specs.declared.engine.command.Said.the-variants as said
 use Rattle.motor.specs.Lone.{Lone, LoneAnswered, LoneHeard, loneStart, loneStep, hears, loneRemoval}
-use Rattle.motor.specs.Receive.{accepts}
+use Rattle.motor.specs.Receive.{acceptsFrame}
 use Rattle.motor.proofs.Clock.{refused-nothing}
 use Rattle.motor.proofs.Stays.{movesBy, moves, heardMoves}
 use Rattle.station.specs.declared.call.Asked.{Asked}
 use Rattle.station.specs.declared.call.Call.{Call}
 use Rattle.station.specs.declared.call.Call.the-variants as call
 use Rattle.station.specs.Calls.{remove, Reply, ok, no, says, answered, refused, refuses}
-use Rattle.station.specs.Station.{Place, held, put, Distinct, movesTo, hearsTo, leaves, loneBy, route, admission, enter, admit, source, toMotor, toSource, stationBy, stationCall}
+use Rattle.station.specs.Station.{Place, held, put, Distinct, movesTo, hearsTo, leaves, loneBy, route, admission, enter, admit, sourceOf, toMotor, toSource, stationBy, stationCall}
 use Rattle.station.specs.Demands.{inert, number, Demand1}
 use Rattle.station.proofs.Changed.{frame-counted, step-ended}
 use Rattle.station.proofs.Numbers.{call-numbers, start-none, frame-none}
@@ -106,11 +106,11 @@ unfolding stationBy
 call-still s (call.Register m host model wait time) f e = admit-still (admission s m host model wait time) s m host model wait time e
 call-still s (call.Start m c now) f e = to-still s m (call.Start m c now) f e
 call-still s (call.Step m now) f e = to-still s m (call.Step m now) f e
-call-still s (call.Frame now) f e = go (accepts (source f) f) e
+call-still s (call.Frame now) f e = go (acceptsFrame (sourceOf f) f) e
   where
     go : (b : Bool) → inert ((cond b (toSource s f now) (no refusal.FrameNotAccepted, s)) .0) ≡ true
         → (cond b (toSource s f now) (no refusal.FrameNotAccepted, s)) .1 ≡ s
-    go true e = route-still s (source f) (held s (source f)) _ _ refl (λ h. lone-still h (call.Frame now) f) e
+    go true e = route-still s (sourceOf f) (held s (sourceOf f)) _ _ refl (λ h. lone-still h (call.Frame now) f) e
     go false e = refl
 call-still s (call.Look m) f e = to-still s m (call.Look m) f e
 call-still s (call.Remove m now) f e = to-still s m (call.Remove m now) f e

@@ -14,9 +14,9 @@ use Rattle.codec.specs.declared.protocol.EncodedValue.the-variants as encoded
 use Rattle.codec.specs.declared.protocol.ParameterValue.{ParameterValue}
 use Rattle.codec.specs.declared.registers.ParameterInfo.{ParameterInfo}
 use Rattle.codec.specs.declared.registers.ParameterInfo.the-variants as info
-use Rattle.codec.specs.Kinds.{among, kindNumber, infoOf}
+use Rattle.codec.specs.Kinds.{among, kindNumber, parameterInfo}
 use Rattle.codec.specs.Refusals.{numberOf}
-use Rattle.codec.specs.Values.{kindIn, rawOf, encodedBy, encodedValue}
+use Rattle.codec.specs.Values.{kindIn, rawOf, encodedBy, encodeParameterValue}
 use Rattle.motor.specs.declared.engine.command.Command.{Command}
 use Rattle.motor.specs.declared.engine.command.Command.the-variants as command
 use Rattle.motor.specs.declared.engine.command.Said.{Said}
@@ -29,16 +29,16 @@ use Rattle.motor.specs.declared.engine.node.Request.the-variants as request
 use Rattle.motor.specs.declared.engine.operation.Move.{Move}
 use Rattle.motor.specs.declared.engine.operation.Phase.{Phase}
 use Rattle.motor.specs.declared.engine.operation.Sight.{Sight}
-use Rattle.motor.specs.declared.engine.run.After.{After}
-use Rattle.motor.specs.declared.engine.run.After.the-variants as after
+use Rattle.motor.specs.declared.engine.run.AfterNode.{AfterNode}
+use Rattle.motor.specs.declared.engine.run.AfterNode.the-variants as after
 use Rattle.motor.specs.Limits.{longestTimeout}
-use Rattle.motor.specs.engine.Operations.{begins, okOf}
-use Rattle.motor.specs.engine.Run.{afterNode, sendThen, write, enter, begin}
-use Rattle.motor.specs.engine.Script.{windowOf, tell}
-use Rattle.motor.specs.Calls.{encodes, isIdle, timeoutOf, arguedOf, orElse, admittedOf, startSaid, sightOf}
+use Rattle.motor.specs.engine.Operations.{beginsWith, ackedOf}
+use Rattle.motor.specs.engine.Run.{afterNode, sendThen, write, entered, begunBy}
+use Rattle.motor.specs.engine.Script.{windowOf, sendWithResponseAck}
+use Rattle.motor.specs.Calls.{encodes, isIdle, timeoutOf, arguedOf, orElse, startAdmitted, startSaid, sightOf}
 use Rattle.motor.specs.Lone.{Lone, loneStart, loneStartBy}
 use Rattle.motor.specs.Numbers.{firstOf}
-use Rattle.motor.specs.Receive.{late}
+use Rattle.motor.specs.Receive.{isLate}
 use Rattle.motor.proofs.GoodNodes.{Good, begins-good}
 use Rattle.motor.proofs.Stays.{argued-passed}
 use Rattle.station.specs.Calls.{says}
@@ -65,7 +65,7 @@ goes-number (said.Finished r) f b g = refl
 goes-number (said.FinishedWith r) f b g = refl
 goes-number (said.Refused r) f b g = absurd g
 
-sent-goes : (now : ℕ) (f : CanFrame) (k : Acked) (a : After) → Goes ((sendThen now f k a) .said)
+sent-goes : (now : ℕ) (f : CanFrame) (k : Acked) (a : AfterNode) → Goes ((sendThen now f k a) .said)
 sent-goes now f k (after.Ends r) = tt
 sent-goes now f k (after.Pauses d then) = tt
 sent-goes now f k after.Goes = tt
@@ -75,7 +75,7 @@ either-goes true x y p q = p
 either-goes false x y p q = q
 
 written-goes : (s : Sight) (now id : ℕ) (k : Acked) (e : EncodedValue) → encodes e ≡ checked.Passed → Goes ((write s now id k e) .said)
-written-goes s now id k (encoded.Raw raw) h = either-goes (eqb (s .«write_wait») 0) _ _ (sent-goes now _ k (afterNode (okOf k))) tt
+written-goes s now id k (encoded.Raw raw) h = either-goes (eqb (s .«write_wait») 0) _ _ (sent-goes now _ k (afterNode (ackedOf k))) tt
 written-goes s now id k (encoded.Refused r) h = refused-passed r h
 
 -- 10 and 11
@@ -101,14 +101,14 @@ isFail (node.Await w window whom) = false
 isFail (node.Motion p v kp kd t r) = false
 isFail (node.Rename new) = false
 
-entered-goes : (s : Sight) (now : ℕ) (n : Node) → isFail n ≡ false → Good n → Goes ((enter s now n) .said)
+entered-goes : (s : Sight) (now : ℕ) (n : Node) → isFail n ≡ false → Good n → Goes ((entered s now n) .said)
 entered-goes s now (node.Finish r) e g = tt
 entered-goes s now node.Report e g = tt
 entered-goes s now node.ClearFault e g = tt
 entered-goes s now (node.Fail r) e g = absurd (true≢false e)
 entered-goes s now (node.Pause d k) e g = tt
 entered-goes s now (node.Last r) e g = tt
-entered-goes s now (node.Write id v k) e g = written-goes s now id k (encodedValue id v) g
+entered-goes s now (node.Write id v k) e g = written-goes s now id k (encodeParameterValue id v) g
 entered-goes s now (node.Await w window whom) e g = tt
 entered-goes s now (node.Motion p v kp kd t r) e g = tt
 entered-goes s now (node.Rename new) e g = tt
@@ -120,7 +120,7 @@ one true r h = h
 one false r h = refl
 
 -- each command: what its tests refuse by, and that its operation doesn't begin with a failure
-begun : (c : Command) → (among (checkedNumber (arguedOf c)) startNumbers ≡ true) × (isFail (begins c) ≡ false)
+begun : (c : Command) → (among (checkedNumber (arguedOf c)) startNumbers ≡ true) × (isFail (beginsWith c) ≡ false)
 unfolding among
 begun (command.Ping timeout) = (refl, refl)
 begun (command.PingWithHostId host timeout) = (one (ltb 255 host) refusal.HostIdOutOfRange refl, refl)
@@ -132,7 +132,7 @@ begun (command.GetProtocolFlag timeout) = (refl, refl)
 begun (command.SetProtocol protocol timeout) = (one (ltb 2 protocol) refusal.UnknownProtocol refl, go (eqb timeout 0))
   where
     go : (b : Bool)
-        → isFail (cond b (node.Last (request.SetProtocol protocol)) (tell (request.SetProtocol protocol) (windowOf timeout 120) acked.Done)) ≡ false
+        → isFail (cond b (node.Last (request.SetProtocol protocol)) (sendWithResponseAck (request.SetProtocol protocol) (windowOf timeout 120) acked.Done)) ≡ false
     go true = refl
     go false = refl
 begun (command.SetDeviceId new) = (one (eqb new 0) refusal.NewDeviceIdZero refl, refl)
@@ -144,7 +144,7 @@ begun (command.SendCmdMit p v kp kd t) = (refl, refl)
 begun (command.SetVelocityTarget v) = (refl, refl)
 begun (command.GetControlMode timeout) = (refl, refl)
 begun (command.ControlledStop timeout) = (refl, refl)
-begun (command.WriteParameter id v) = (written-number (infoOf id) v, refl)
+begun (command.WriteParameter id v) = (written-number (parameterInfo id) v, refl)
 begun (command.SendCmdPosVelCsp p v) = (refl, refl)
 begun (command.SendCmdPosVelPp p v a) = (refl, refl)
 begun (command.RequestParameter id) = (refl, refl)
@@ -155,7 +155,7 @@ begun (command.GetParameterI8 id timeout) = (refl, refl)
 
 pub start-number : (h : Lone) (c : Command) (now : ℕ) → among (number ((movesTo (loneStart h c now)) .0)) startNumbers ≡ true
 unfolding movesTo among
-start-number h c now = go (startSaid clock p c now) refl (tested (admittedOf clock p c now) (of-first (λ n. among n startNumbers) tests refl))
+start-number h c now = go (startSaid clock p c now) refl (tested (startAdmitted clock p c now) (of-first (λ n. among n startNumbers) tests refl))
   where
     clock : ℕ
     clock = h .state .clock
@@ -164,7 +164,7 @@ start-number h c now = go (startSaid clock p c now) refl (tested (admittedOf clo
     p = h .state .operation .phase
 
     tests : List (Bool × Refusal)
-    tests = (late clock now, refusal.TimeOutOfRange) ∷ (not (isIdle p), refusal.OperationRunning) ∷ (ltb longestTimeout (timeoutOf c), refusal.TimeoutTooLong) ∷ []
+    tests = (isLate clock now, refusal.TimeOutOfRange) ∷ (not (isIdle p), refusal.OperationRunning) ∷ (ltb longestTimeout (timeoutOf c), refusal.TimeoutTooLong) ∷ []
 
     tested : (a : Checked) → among (checkedNumber a) startNumbers ≡ true → among (checkedNumber (orElse a (arguedOf c))) startNumbers ≡ true
     tested checked.Passed e = begun c .0
@@ -173,9 +173,9 @@ start-number h c now = go (startSaid clock p c now) refl (tested (admittedOf clo
     go : (k : Checked) → startSaid clock p c now ≡ k → among (checkedNumber k) startNumbers ≡ true
         → among (number ((movesTo (loneStartBy k h c now)) .0)) startNumbers ≡ true
     go checked.Passed q e =
-        let v = begin (sightOf (h .state)) now c in
+        let v = begunBy (sightOf (h .state)) now c in
         ap (λ (n : ℕ). among n startNumbers)
         (goes-number (v .said) (v .frame) (v .result)
-        (entered-goes (sightOf (h .state)) now (begins c) (begun c .1)
-        (begins-good c (argued-passed (admittedOf clock p c now) (arguedOf c) q))))
+        (entered-goes (sightOf (h .state)) now (beginsWith c) (begun c .1)
+        (begins-good c (argued-passed (startAdmitted clock p c now) (arguedOf c) q))))
     go (checked.Refused r) q e = e

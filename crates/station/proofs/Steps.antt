@@ -17,14 +17,14 @@ use Rattle.codec.specs.Kinds.{among}
 use Rattle.motor.specs.Calls.{registerNumbers}
 use Rattle.motor.specs.Lone.{Lone, loneNew, loneAgain, loneRemoval}
 use Rattle.motor.specs.Numbers.{firstOf}
-use Rattle.motor.specs.Receive.{accepts, frameType, frameExtra}
+use Rattle.motor.specs.Receive.{acceptsFrame, frameType, frameExtra}
 use Rattle.station.specs.declared.call.Answer.{Answer}
 use Rattle.station.specs.declared.call.Asked.{Asked}
 use Rattle.station.specs.declared.call.Call.{Call}
 use Rattle.station.specs.declared.call.Call.the-variants as call
 use Rattle.station.specs.Calls.{Reply, ok, no, answered}
 use Rattle.station.specs.Station.{Place, held, full, isSome, Distinct}
-use Rattle.station.specs.Station.{movesTo, hearsTo, leaves, loneBy, lone, route, admission, enter, admit, source, toSource, stationBy, stationCall}
+use Rattle.station.specs.Station.{movesTo, hearsTo, leaves, loneBy, lone, route, admission, enter, admit, sourceOf, toSource, stationBy, stationCall}
 use Rattle.station.specs.History.{mineBy, mine, removes, isOk}
 use Rattle.station.specs.Demands.{Given, registers, made}
 use Rattle.station.proofs.Places.{same-id, own-id, held-put-other, held-add-other, held-add, held-put, distinct-put, distinct-add, length-put, length-add}
@@ -74,18 +74,18 @@ and-true true b e = (refl, e)
 and-true false b e = absurd (true≢false (sym e))
 
 -- it is the frame's source
-pub accepts-source : (m : ℕ) (f : CanFrame) → accepts m f ≡ true → (source f ≡ m) × (accepts (source f) f ≡ true)
-unfolding accepts source
+pub accepts-source : (m : ℕ) (f : CanFrame) → acceptsFrame m f ≡ true → (sourceOf f ≡ m) × (acceptsFrame (sourceOf f) f ≡ true)
+unfolding acceptsFrame sourceOf
 accepts-source m f e =
     let x = and-true (f .«is_extended») _ e in
     let y = and-true (among (frameType f) (0 ∷ 2 ∷ 17 ∷ 21 ∷ 24 ∷ 25 ∷ [])) _ (x .1) in
     (same-id (frameExtra f % 256) m (y .1), rw (x .0, y .0) (own-id (frameExtra f % 256)))
 
-pub source-accepts : (m : ℕ) (f : CanFrame) → accepts m f ≡ false → accepts (source f) f ≡ true → eqb (source f) m ≡ false
-source-accepts m f e a = go (eqb (source f) m) refl
+pub source-accepts : (m : ℕ) (f : CanFrame) → acceptsFrame m f ≡ false → acceptsFrame (sourceOf f) f ≡ true → eqb (sourceOf f) m ≡ false
+source-accepts m f e a = go (eqb (sourceOf f) m) refl
   where
-    go : (b : Bool) → eqb (source f) m ≡ b → eqb (source f) m ≡ false
-    go true p = absurd (true≢false (sym a ∙ rw (same-id (source f) m p) e))
+    go : (b : Bool) → eqb (sourceOf f) m ≡ b → eqb (sourceOf f) m ≡ false
+    go true p = absurd (true≢false (sym a ∙ rw (same-id (sourceOf f) m p) e))
     go false p = p
 
 -- ---- a call that isn't m's leaves what is held for m
@@ -116,10 +116,10 @@ unfolding mineBy stationBy
 other-by s m (call.Register i host model wait time) f e = admit-other (admission s i host model wait time) s i m host model wait time e
 other-by s m (call.Start i c now) f e = route-other s i m (held s i) _ _ e
 other-by s m (call.Step i now) f e = route-other s i m (held s i) _ _ e
-other-by s m (call.Frame now) f e = go (accepts (source f) f) refl
+other-by s m (call.Frame now) f e = go (acceptsFrame (sourceOf f) f) refl
   where
-    go : (b : Bool) → accepts (source f) f ≡ b → held ((cond b (toSource s f now) (no refusal.FrameNotAccepted, s)) .1) m ≡ held s m
-    go true p = route-other s (source f) m (held s (source f)) _ _ (source-accepts m f e p)
+    go : (b : Bool) → acceptsFrame (sourceOf f) f ≡ b → held ((cond b (toSource s f now) (no refusal.FrameNotAccepted, s)) .1) m ≡ held s m
+    go true p = route-other s (sourceOf f) m (held s (sourceOf f)) _ _ (source-accepts m f e p)
     go false p = refl
 other-by s m (call.Look i) f e = route-other s i m (held s i) _ _ e
 other-by s m (call.Remove i now) f e = route-other s i m (held s i) _ _ e
@@ -158,7 +158,7 @@ own-by s m h (call.Start i c now) f d e q = route-own s i m h _ _ d e (same-id i
 own-by s m h (call.Step i now) f d e q = route-own s i m h _ _ d e (same-id i m q)
 own-by s m h (call.Frame now) f d e q =
     let a = accepts-source m f q in
-    rw (a .1) (route-own s (source f) m h _ _ d e (a .0))
+    rw (a .1) (route-own s (sourceOf f) m h _ _ d e (a .0))
 own-by s m h (call.Look i) f d e q = route-own s i m h _ _ d e (same-id i m q)
 own-by s m h (call.Remove i now) f d e q = route-own s i m h _ _ d e (same-id i m q)
 
@@ -229,10 +229,10 @@ distinct-by s (call.Register i host model wait time) f d = go (admission s i hos
     go (checked.Refused r) e = d
 distinct-by s (call.Start i c now) f d = route-distinct s i (held s i) _ _ d
 distinct-by s (call.Step i now) f d = route-distinct s i (held s i) _ _ d
-distinct-by s (call.Frame now) f d = go (accepts (source f) f)
+distinct-by s (call.Frame now) f d = go (acceptsFrame (sourceOf f) f)
   where
     go : (b : Bool) → Distinct ((cond b (toSource s f now) (no refusal.FrameNotAccepted, s)) .1)
-    go true = route-distinct s (source f) (held s (source f)) _ _ d
+    go true = route-distinct s (sourceOf f) (held s (sourceOf f)) _ _ d
     go false = d
 distinct-by s (call.Look i) f d = route-distinct s i (held s i) _ _ d
 distinct-by s (call.Remove i now) f d = route-distinct s i (held s i) _ _ d
@@ -287,10 +287,10 @@ unfolding stationBy
 length-by s (call.Register i host model wait time) f = admit-length (admission s i host model wait time) s i host model wait time
 length-by s (call.Start i c now) f = route-length s i (held s i) _ _
 length-by s (call.Step i now) f = route-length s i (held s i) _ _
-length-by s (call.Frame now) f = go (accepts (source f) f)
+length-by s (call.Frame now) f = go (acceptsFrame (sourceOf f) f)
   where
     go : (b : Bool) → length ((cond b (toSource s f now) (no refusal.FrameNotAccepted, s)) .1) ≡ length s
-    go true = route-length s (source f) (held s (source f)) _ _
+    go true = route-length s (sourceOf f) (held s (sourceOf f)) _ _
     go false = refl
 length-by s (call.Look i) f = route-length s i (held s i) _ _
 length-by s (call.Remove i now) f = route-length s i (held s i) _ _

@@ -21,17 +21,17 @@ use Rattle.motor.specs.declared.engine.command.Said.{Said}
 use Rattle.motor.specs.declared.engine.command.Said.the-variants as said
 use Rattle.motor.specs.declared.engine.operation.Effect.{Effect}
 use Rattle.motor.specs.declared.engine.operation.Operation.{Operation}
-use Rattle.motor.specs.engine.Run.{advance, begin}
+use Rattle.motor.specs.engine.Run.{advanced, begunBy}
 use Rattle.motor.specs.declared.motor.Answered.{Answered}
 use Rattle.motor.specs.declared.motor.Motor.{Motor}
 use Rattle.motor.specs.declared.readings.Readings.{Readings}
 use Rattle.motor.specs.declared.receive.Heard.{Heard}
 use Rattle.motor.specs.declared.registration.Admission.{Admission}
 use Rattle.motor.specs.declared.registration.Admission.the-variants as admission
-use Rattle.motor.specs.Calls.{sightOf, wanted, isIdle, admittedOf, arguedOf, startSaid, stepSaid, registrationOf}
+use Rattle.motor.specs.Calls.{sightOf, wanted, isIdle, startAdmitted, arguedOf, startSaid, stepSaid, registrationOf}
 use Rattle.motor.specs.Motors.{newMotor, startBy, startOf, stepBy, stepOf, removalOf}
 use Rattle.motor.specs.Readings.{findOf, putOf}
-use Rattle.motor.specs.Receive.{accepts, late, readId, readStored, frameSaid, stateAfter, readingsAfter, isFull, heardOf}
+use Rattle.motor.specs.Receive.{acceptsFrame, isLate, readId, readStored, frameSaid, stateAfter, readingsAfter, isFull, processFeedbackFrame}
 use Rattle.motor.proofs.Ends.{Closed, begin-ends, advance-ends}
 use Rattle.motor.proofs.Stays.{moves, heardMoves, argued-passed, running}
 use Rattle.station.specs.declared.station.Station.{Station}
@@ -40,8 +40,8 @@ use Rattle.station.specs.declared.call.Asked.{Asked}
 use Rattle.station.specs.declared.call.Call.{Call}
 use Rattle.station.specs.declared.call.Call.the-variants as call
 use Rattle.station.specs.Calls.{gives}
-use Rattle.station.specs.Station.{source}
-use Rattle.station.specs.Stations.{freeMotor, indexOf, motorAt, withMotor, atPlace, tells, movedAt, unmoved, heardAt, removedAt, enteredIn, admittedIn, registerBy, registerIn, startIn, stepIn, frameIn, removeIn}
+use Rattle.station.specs.Station.{sourceOf}
+use Rattle.station.specs.Stations.{freeMotor, placeOf, motorAt, withMotor, atPlace, tell, movedAt, notMoved, heardAt, removedAt, enteredIn, admittedIn, registerBy, registerIn, startIn, stepIn, frameIn, removeIn}
 use Rattle.station.specs.Demands.{inert}
 use Rattle.station.proofs.Contracts.{replyIn, next, givenBy, given}
 use Rattle.station.proofs.Elsewhere.{either, at-place}
@@ -63,8 +63,8 @@ start-kept y c now = go (startSaid (y .state .clock) (y .state .operation .phase
     go : (k : Checked) → startSaid (y .state .clock) (y .state .operation .phase) c now ≡ k → moves (startBy k y c now .said) ≡ false
         → startBy k y c now .motor ≡ y
     go checked.Passed e q =
-        let v = begin (sightOf (y .state)) now c in
-        let h = begin-ends (sightOf (y .state)) now c (argued-passed (admittedOf (y .state .clock) (y .state .operation .phase) c now) (arguedOf c) e) in
+        let v = begunBy (sightOf (y .state)) now c in
+        let h = begin-ends (sightOf (y .state)) now c (argued-passed (startAdmitted (y .state .clock) (y .state .operation .phase) c now) (arguedOf c) e) in
         absurd (true≢false (sym (ends-moves (v .said) (v .operation) (v .effect) h) ∙ q))
     go (checked.Refused r) e q = refl
 
@@ -76,8 +76,8 @@ step-kept y now = go (stepSaid (y .state .clock) (y .state .operation .phase) no
     go checked.Passed e q =
         let op = y .state .operation in
         let f = wanted (op .phase) (λ id. findOf (y .readings) id) in
-        let v = advance (sightOf (y .state)) now op f (op .phase) in
-        let h = advance-ends (sightOf (y .state)) now op f (op .phase) (running (late (y .state .clock) now) (isIdle (op .phase)) e) in
+        let v = advanced (sightOf (y .state)) now op f (op .phase) in
+        let h = advance-ends (sightOf (y .state)) now op f (op .phase) (running (isLate (y .state .clock) now) (isIdle (op .phase)) e) in
         absurd (true≢false (sym (ends-moves (v .said) (v .operation) (v .effect) h) ∙ q))
     go (checked.Refused r) e q = refl
 
@@ -91,8 +91,8 @@ fewer n e = go (eqb 14 n) (eqb 15 n) (among n (16 ∷ 17 ∷ 18 ∷ 20 ∷ [])) 
     go false true c e = e
     go false false c e = refl
 
-heard-kept : (y : Motor) (f : CanFrame) (now : ℕ) → heardMoves (heardOf y f now .said) ≡ false → heardOf y f now .motor ≡ y
-unfolding heardOf stateAfter readingsAfter
+heard-kept : (y : Motor) (f : CanFrame) (now : ℕ) → heardMoves (processFeedbackFrame y f now .said) ≡ false → processFeedbackFrame y f now .motor ≡ y
+unfolding processFeedbackFrame stateAfter readingsAfter
 heard-kept y f now =
     let put = putOf (y .readings) (readId f) (readStored f) in
     go (frameSaid (y .state) f now (isFull (put .said))) (put .readings)
@@ -114,10 +114,10 @@ put-back st i y e =
 abbrev Still : Station → After → Type 0
 Still st r = inert (gives (r .replied)) ≡ true → r .station ≡ st
 
-refused-still : (st : Station) (r : Refusal) → Still st (tells st (checked.Refused r))
+refused-still : (st : Station) (r : Refusal) → Still st (tell st (checked.Refused r))
 refused-still st r e = refl
 
-passed-still : (st after : Station) → Still st (tells after checked.Passed)
+passed-still : (st after : Station) → Still st (tell after checked.Passed)
 unfolding inert among
 passed-still st after e = absurd (true≢false (sym e))
 
@@ -130,24 +130,24 @@ heard-still st i h same e = put-back st i (h .motor) (same (told-moves (h .said)
 start-still : (st : Station) (id : ℕ) (c : Command) (now : ℕ) → Still st (startIn st id c now)
 unfolding startIn
 start-still st id c now =
-    at-place (Still st) st id (λ i. movedAt st i (startOf (motorAt st i) c now)) (unmoved st)
+    at-place (Still st) st id (λ i. movedAt st i (startOf (motorAt st i) c now)) (notMoved st)
     (λ i p. moved-still st i (startOf (motorAt st i) c now) (start-kept (motorAt st i) c now))
     (λ e. refl)
 
 step-still : (st : Station) (id now : ℕ) → Still st (stepIn st id now)
 unfolding stepIn
 step-still st id now =
-    at-place (Still st) st id (λ i. movedAt st i (stepOf (motorAt st i) now)) (unmoved st)
+    at-place (Still st) st id (λ i. movedAt st i (stepOf (motorAt st i) now)) (notMoved st)
     (λ i p. moved-still st i (stepOf (motorAt st i) now) (step-kept (motorAt st i) now))
     (λ e. refl)
 
 frame-still : (st : Station) (f : CanFrame) (now : ℕ) → Still st (frameIn st f now)
 unfolding frameIn
 frame-still st f now =
-    let other = tells st (checked.Refused refusal.FrameNotAccepted) in
-    either (Still st) (accepts (source f) f) (atPlace st (source f) (λ i. heardAt st i (heardOf (motorAt st i) f now)) other) other
-    (at-place (Still st) st (source f) (λ i. heardAt st i (heardOf (motorAt st i) f now)) other
-    (λ i p. heard-still st i (heardOf (motorAt st i) f now) (heard-kept (motorAt st i) f now))
+    let other = tell st (checked.Refused refusal.FrameNotAccepted) in
+    either (Still st) (acceptsFrame (sourceOf f) f) (atPlace st (sourceOf f) (λ i. heardAt st i (processFeedbackFrame (motorAt st i) f now)) other) other
+    (at-place (Still st) st (sourceOf f) (λ i. heardAt st i (processFeedbackFrame (motorAt st i) f now)) other
+    (λ i p. heard-still st i (processFeedbackFrame (motorAt st i) f now) (heard-kept (motorAt st i) f now))
     (refused-still st refusal.FrameNotAccepted))
     (refused-still st refusal.FrameNotAccepted)
 
@@ -158,21 +158,21 @@ removed-still (checked.Refused r) st i = refused-still st r
 remove-still : (st : Station) (id now : ℕ) → Still st (removeIn st id now)
 unfolding removeIn
 remove-still st id now =
-    at-place (Still st) st id (λ i. removedAt (removalOf (motorAt st i) now) st i) (tells st (checked.Refused refusal.IdNotRegistered))
+    at-place (Still st) st id (λ i. removedAt (removalOf (motorAt st i) now) st i) (tell st (checked.Refused refusal.IdNotRegistered))
     (λ i p. removed-still (removalOf (motorAt st i) now) st i)
     (refused-still st refusal.IdNotRegistered)
 
 entered-still : (st : Station) (m : Motor) → Still st (enteredIn st m)
 unfolding enteredIn
 entered-still st m =
-    either (Still st) (ltb (indexOf (st .motors) 0) 8) (tells (withMotor st (indexOf (st .motors) 0) m) checked.Passed) (tells st (checked.Refused refusal.StationFull))
-    (passed-still st (withMotor st (indexOf (st .motors) 0) m))
+    either (Still st) (ltb (placeOf (st .motors) 0) 8) (tell (withMotor st (placeOf (st .motors) 0) m) checked.Passed) (tell st (checked.Refused refusal.StationFull))
+    (passed-still st (withMotor st (placeOf (st .motors) 0) m))
     (refused-still st refusal.StationFull)
 
 admitted-still : (st : Station) (id host : ℕ) (model : Model) (wait time : ℕ) → Still st (admittedIn st id host model wait time)
 unfolding admittedIn
 admitted-still st id host model wait time =
-    at-place (Still st) st id (λ i. tells st (checked.Refused refusal.IdRegistered)) (enteredIn st (newMotor id host model wait time))
+    at-place (Still st) st id (λ i. tell st (checked.Refused refusal.IdRegistered)) (enteredIn st (newMotor id host model wait time))
     (λ i p. refused-still st refusal.IdRegistered)
     (entered-still st (newMotor id host model wait time))
 

@@ -5,16 +5,16 @@ use mathlib.Core.List.{List, []}
 use denote.Ref.{now}
 use mir.Syntax.{w8}
 use mir.Val.{ofZ, toZ}
-use Rattle.codec.specs.Faults.{faultReport}
-use Rattle.codec.specs.Ids.{joined, split}
-use Rattle.codec.specs.Kinds.{infoOf}
+use Rattle.codec.specs.Faults.{decodeFaultReport}
+use Rattle.codec.specs.Ids.{buildExtId, extIdParts}
+use Rattle.codec.specs.Kinds.{parameterInfo}
 use Rattle.codec.specs.Models.{modelNamed, limitsOf, modelLimits}
-use Rattle.codec.specs.Modes.{modeNumber, modeRead}
-use Rattle.codec.specs.Motion.{motionRaw, gainRaw, mitCommand}
+use Rattle.codec.specs.Modes.{controlModeNumber, controlModeFromRaw}
+use Rattle.codec.specs.Motion.{motionRaw, gainRaw, encodeMitCommand}
 use Rattle.codec.specs.Refusals.{numberOf}
-use Rattle.codec.specs.Replies.{protocolChecked, setProtocol, versionRequest, isVersion, versionAnswer, pingAnswer}
-use Rattle.codec.specs.Status.{statusValue, temperatureOf, statusFrame}
-use Rattle.codec.specs.Values.{encodedValue, readPayload, writePayload, readValue}
+use Rattle.codec.specs.Replies.{validateProtocolCmd, encodeSetProtocol, encodeVersionRequest, isVersionReply, decodeVersionReply, decodePingReply}
+use Rattle.codec.specs.Status.{statusValue, temperatureOf, decodeStatusFrame}
+use Rattle.codec.specs.Values.{encodeParameterValue, encodeParameterRead, encodeParameterWrite, decodeReadParameterValue}
 use Rattle.codec.specs.Words.{valueOf, wordOf}
 use Rattle.codec.proofs.error.number.Reads as number
 use Rattle.codec.proofs.faults.decode_fault_report.Reads as decode-fault-report
@@ -46,9 +46,9 @@ use Rattle.codec.proofs.word.byte_of.Reads as byte-of
 use Rattle.codec.proofs.word.signed_of.Reads as signed-of
 use Rattle.codec.proofs.word.value.Reads as value-reads
 use Rattle.codec.proofs.word.word_of.Reads as word-of
-use Rattle.motor.specs.engine.Hosts.{candidatesOf}
+use Rattle.motor.specs.engine.Hosts.{hostCandidates}
 use Rattle.motor.specs.engine.Requests.{noFrame}
-use Rattle.motor.specs.engine.Run.{idle, begin, advance, inTime}
+use Rattle.motor.specs.engine.Run.{noOperation, begunBy, advanced, inTime}
 use Rattle.motor.proofs.engine.candidates.host_candidates.Reads as host-candidates
 use Rattle.motor.proofs.engine.moves.no_operation.Reads as no-operation-reads
 use Rattle.motor.proofs.engine.requests.no_frame.Reads as no-frame-reads
@@ -56,11 +56,11 @@ use Rattle.motor.proofs.engine.run.begin_at.Reads as begin-at
 use Rattle.motor.proofs.engine.run.advance_at.Reads as advance-at
 use Rattle.motor.specs.declared.readings.Entry.{Entry}
 use Rattle.motor.specs.Calls.{registrationOf}
-use Rattle.motor.specs.Edits.{readHeard}
+use Rattle.motor.specs.Edits.{hearRead}
 use Rattle.motor.specs.Lone.{loneStart, loneStep, hears, loneLook}
 use Rattle.motor.specs.Motors.{newMotor, startOf, stepOf, lookOf, removalOf, loneOf, AnsweredAs, HeardAs}
-use Rattle.motor.specs.Readings.{lookup, Lists, atFirst, dropIn, Rep, Holds, Puts, listing, emptyReadings, findOf, putOf, dropOf, listingOf}
-use Rattle.motor.specs.Receive.{accepts, isRead, heardOf, stateHeard}
+use Rattle.motor.specs.Readings.{lookup, Lists, atFirst, dropIn, Rep, Holds, Puts, listing, emptyReadings, findOf, putOf, dropId, listedOf}
+use Rattle.motor.specs.Receive.{acceptsFrame, isRead, processFeedbackFrame, hearState}
 use Rattle.motor.proofs.motor.look.Reads as look-reads
 use Rattle.motor.proofs.motor.new.Reads as new-reads
 use Rattle.motor.proofs.motor.removal.Reads as removal-reads
@@ -113,17 +113,17 @@ of6 g x = g (x .0) (x .1 .0) (x .1 .1 .0) (x .1 .1 .1 .0) (x .1 .1 .1 .1 .0) (x 
 -- ---- by document 01's groups
 
 pub record Ids : Type 0 where
-  pub build : Gives build-ext-id.Post (of3 joined)
-  pub parts : Gives ext-id-parts.Post (of1 split)
+  pub build : Gives build-ext-id.Post (of3 buildExtId)
+  pub parts : Gives ext-id-parts.Post (of1 extIdParts)
 
 pub record Parameters : Type 0 where
-  pub parameter : Gives parameter-info.Post (of1 infoOf)
-  pub encode-read : Gives encode-parameter-read.Post (of1 readPayload)
-  pub encode-write : Gives encode-parameter-write.Post (of2 writePayload)
-  pub encode-value : Gives encode-parameter-value.Post (of2 encodedValue)
-  pub decode-value : Gives decode-read-parameter-value.Post (of2 readValue)
-  pub mode-from : Gives from-raw.Post (of1 modeRead)
-  pub mode-to : Gives mode-number.Post (of1 modeNumber)
+  pub parameter : Gives parameter-info.Post (of1 parameterInfo)
+  pub encode-read : Gives encode-parameter-read.Post (of1 encodeParameterRead)
+  pub encode-write : Gives encode-parameter-write.Post (of2 encodeParameterWrite)
+  pub encode-value : Gives encode-parameter-value.Post (of2 encodeParameterValue)
+  pub decode-value : Gives decode-read-parameter-value.Post (of2 decodeReadParameterValue)
+  pub mode-from : Gives from-raw.Post (of1 controlModeFromRaw)
+  pub mode-to : Gives mode-number.Post (of1 controlModeNumber)
   pub byte : Gives byte-of.Post (of1 (λ v. ofZ w8 v))
   pub signed : Gives signed-of.Post (of1 (λ b. toZ w8 b))
 
@@ -134,19 +134,19 @@ pub record MotionValues : Type 0 where
   pub limits : Gives limits-of.Post (of1 limitsOf)
   pub motion : Gives motion-raw.Post (of2 motionRaw)
   pub gain : Gives gain-raw.Post (of2 gainRaw)
-  pub command : Gives encode-mit-command.Post (of6 mitCommand)
+  pub command : Gives encode-mit-command.Post (of6 encodeMitCommand)
   pub float : Gives value-reads.Post (of1 valueOf)
   pub word : Gives word-of.Post (of1 wordOf)
 
 pub record StatusValues : Type 0 where
   pub value : Gives status-value.Post (of2 statusValue)
   pub degrees : Gives temperature.Post (of1 temperatureOf)
-  pub status : Gives decode-status-frame.Post (of3 statusFrame)
-  pub fault : Gives decode-fault-report.Post (of1 faultReport)
-  pub ping : Gives decode-ping-reply.Post (of2 pingAnswer)
-  pub is-version : Gives is-version-reply.Post (of2 isVersion)
-  pub version : Gives decode-version-reply.Post (of2 versionAnswer)
-  pub ask-version : Gives encode-version-request.Post (of0 versionRequest)
+  pub status : Gives decode-status-frame.Post (of3 decodeStatusFrame)
+  pub fault : Gives decode-fault-report.Post (of1 decodeFaultReport)
+  pub ping : Gives decode-ping-reply.Post (of2 decodePingReply)
+  pub is-version : Gives is-version-reply.Post (of2 isVersionReply)
+  pub version : Gives decode-version-reply.Post (of2 decodeVersionReply)
+  pub ask-version : Gives encode-version-request.Post (of0 encodeVersionRequest)
 
 -- the 96 records on any value, and what they mean: the list l that they hold, and the two chains ls
 pub record ReadingRules : Type 0 where
@@ -156,30 +156,30 @@ pub record ReadingRules : Type 0 where
   pub find-held : Means find-reads.Post (of2 (λ rs id r. (l : List Entry) → Holds rs l → r ≡ lookup id l))
   pub put : Gives put-reads.Post (of3 putOf)
   pub put-held : Means put-reads.Post (of3 (λ rs id v r. (ls : Lists) → Rep rs ls → Puts rs ls id v r))
-  pub drop : Gives drop-id.Post (of2 dropOf)
+  pub drop : Gives drop-id.Post (of2 dropId)
   pub drop-held : Means drop-id.Post (of2 (λ rs id r. (ls : Lists) → Rep rs ls → Rep r (dropIn id ls)))
-  pub listed : Gives listed-reads.Post (of1 listingOf)
+  pub listed : Gives listed-reads.Post (of1 listedOf)
   pub listed-held : Means listed-reads.Post (of1 (λ rs r. (l : List Entry) → Holds rs l → r ≡ listing l))
 
 -- on any motor, and, where its readings are the list l, as the lone motor
 pub record ReceiveRules : Type 0 where
   pub readings : ReadingRules
-  pub accepted : Gives accepts-frame.Post (of2 accepts)
+  pub accepted : Gives accepts-frame.Post (of2 acceptsFrame)
   pub read : Gives is-read.Post (of1 isRead)
-  pub heard : Gives process-feedback-frame.Post (of3 heardOf)
-  pub quiet : Gives hear-state.Post (of3 stateHeard)
-  pub edits : Gives hear-read.Post (of3 readHeard)
+  pub heard : Gives process-feedback-frame.Post (of3 processFeedbackFrame)
+  pub quiet : Gives hear-state.Post (of3 hearState)
+  pub edits : Gives hear-read.Post (of3 hearRead)
   pub as-lone : Means process-feedback-frame.Post (of3 (λ m f time r. (l : List Entry) → Holds (m .readings) l → HeardAs r (hears (loneOf m l) f time)))
 
 pub record Operations : Type 0 where
   pub numbers : Gives number.Post (of1 numberOf)
-  pub candidates : Gives host-candidates.Post (of1 candidatesOf)
+  pub candidates : Gives host-candidates.Post (of1 hostCandidates)
   pub no-frame : Gives no-frame-reads.Post (of0 noFrame)
-  pub no-operation : Gives no-operation-reads.Post (of0 idle)
-  pub protocol : Gives validate-protocol-cmd.Post (of1 protocolChecked)
-  pub set-protocol : Gives encode-set-protocol.Post (of1 setProtocol)
-  pub begins : Gives begin-at.Post (of3 (λ s time c. inTime time (begin s time c)))
-  pub advances : Gives advance-at.Post (of4 (λ s time op f. inTime time (advance s time op f (op .phase))))
+  pub no-operation : Gives no-operation-reads.Post (of0 noOperation)
+  pub protocol : Gives validate-protocol-cmd.Post (of1 validateProtocolCmd)
+  pub set-protocol : Gives encode-set-protocol.Post (of1 encodeSetProtocol)
+  pub begins : Gives begin-at.Post (of3 (λ s time c. inTime time (begunBy s time c)))
+  pub advances : Gives advance-at.Post (of4 (λ s time op f. inTime time (advanced s time op f (op .phase))))
   pub admission-of : Gives registration-of.Post (of5 registrationOf)
   pub admission : Gives registration-reads.Post (of5 (λ id host name wait time. registrationOf id host (modelNamed (now name)) wait time))
   pub new : Gives new-reads.Post (of5 newMotor)

@@ -14,7 +14,7 @@ use Rattle.codec.specs.declared.error.Checked.the-variants as checked
 use Rattle.codec.specs.declared.protocol.ParameterValue.{ParameterValue}
 use Rattle.codec.specs.declared.registers.ParameterDataType.{ParameterDataType}
 use Rattle.codec.specs.declared.registers.ParameterInfo.the-variants as info
-use Rattle.codec.specs.Kinds.{infoOf}
+use Rattle.codec.specs.Kinds.{parameterInfo}
 use Rattle.codec.specs.Values.{kindIn}
 use Rattle.codec.proofs.RoundTrips.{InRange}
 use Rattle.motor.specs.declared.engine.command.Command.the-variants as command
@@ -25,14 +25,14 @@ use Rattle.motor.specs.declared.engine.reading.Found.the-variants as found
 use Rattle.motor.specs.declared.readings.Entry.{Entry}
 use Rattle.motor.specs.Lone.{Lone}
 use Rattle.motor.specs.Readings.{entry, lookup}
-use Rattle.motor.specs.Receive.{accepts, isRead, readStatus, readId, readStored}
+use Rattle.motor.specs.Receive.{acceptsFrame, isRead, readStatus, readId, readStored}
 use Rattle.motor.proofs.Echo.{Carries, WrittenOut}
 use Rattle.motor.proofs.ReceivingTheorems.{heldKind}
 use Rattle.station.specs.declared.call.Answer.{Answer}
 use Rattle.station.specs.declared.call.Answer.the-variants as answer
 use Rattle.station.specs.declared.call.Asked.{Asked}
 use Rattle.station.specs.Calls.{start, frame, Reply, ok}
-use Rattle.station.specs.Station.{Place, empty, held, source, stationCall}
+use Rattle.station.specs.Station.{Place, empty, held, sourceOf, stationCall}
 use Rattle.station.specs.History.{Told, after}
 use Rattle.station.specs.Definitions.{Ids, Parameters, MotionValues, StatusValues, ReceiveRules, Operations}
 
@@ -75,7 +75,7 @@ Echo =
     unrefused a ≡ true
     → (t : List Place) (f : CanFrame) (later : ℕ) → isRead f ≡ true → Carries (f .data) (sentIn a .data)
     → (stationCall t (frame f later)) .0 ≡ ok
-    → reading id (held ((stationCall t (frame f later)) .1) (source f)) ≡ found.Held (record { value = v })
+    → reading id (held ((stationCall t (frame f later)) .1) (sourceOf f)) ≡ found.Held (record { value = v })
 
 -- ---- what is held
 
@@ -93,7 +93,7 @@ pub record Came (m : ℕ) (told : List Told) (e : Entry) : Type 0 where
   pub reply : CanFrame
   pub time : ℕ
   pub handed-in : In (frame reply time, ok) told
-  pub accepted : accepts m reply ≡ true
+  pub accepted : acceptsFrame m reply ≡ true
   pub read : isRead reply ≡ true
   pub zero-status : readStatus reply ≡ 0
   pub same : entry (readId reply) (readStored reply) ≡ e
@@ -103,7 +103,7 @@ pub record Came (m : ℕ) (told : List Told) (e : Entry) : Type 0 where
 pub record HeldReading (m : ℕ) (told : List Told) (e : Entry) : Type 0 where
   pub came : Came m told e
   pub kind : kindIn (e .held .value) ≡ heldKind (e .id)
-  pub written-out : (k : ParameterDataType) → infoOf (e .id) ≡ info.Listed k → ((i : ℕ) → getD (came .reply .data) i 0 < 256)
+  pub written-out : (k : ParameterDataType) → parameterInfo (e .id) ≡ info.Listed k → ((i : ℕ) → getD (came .reply .data) i 0 < 256)
       → WrittenOut (e .id) (e .held .value) k (came .reply .data)
 
 -- after any list of calls from a fresh station, for any motor, every reading

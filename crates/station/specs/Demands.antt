@@ -16,10 +16,10 @@ use Rattle.motor.specs.declared.engine.command.Command.{Command}
 use Rattle.motor.specs.declared.engine.command.Said.{Said}
 use Rattle.motor.specs.declared.engine.command.Said.the-variants as said
 use Rattle.motor.specs.declared.engine.operation.Effect.the-variants as effect
-use Rattle.motor.specs.engine.Run.{idle}
-use Rattle.motor.specs.Calls.{noCommand, movedBy}
+use Rattle.motor.specs.engine.Run.{noOperation}
+use Rattle.motor.specs.Calls.{noCommand, stateBy}
 use Rattle.motor.specs.Lone.{Lone, loneNew}
-use Rattle.motor.specs.Receive.{counted}
+use Rattle.motor.specs.Receive.{countedAt}
 use Rattle.station.specs.declared.call.Answer.{Answer}
 use Rattle.station.specs.declared.call.Answer.the-variants as answer
 use Rattle.station.specs.declared.call.Asked.{Asked}
@@ -27,7 +27,7 @@ use Rattle.station.specs.declared.call.Call.{Call}
 use Rattle.station.specs.declared.call.Call.the-variants as call
 use Rattle.station.specs.Limits.{mostMotors}
 use Rattle.station.specs.Calls.{register, start, step, frame, remove, Reply, ok}
-use Rattle.station.specs.Station.{Place, empty, held, Distinct, admission, source, stationCall}
+use Rattle.station.specs.Station.{Place, empty, held, Distinct, admission, sourceOf, stationCall}
 use Rattle.station.specs.History.{Told, mine, ofM, after, story, own, history, alone, holds}
 
 -- what a motor is registered with besides its id
@@ -118,10 +118,10 @@ numbersOf (call.Remove m now) = 0 ∷ 6 ∷ 7 ∷ 8 ∷ []
 
 -- a motor whose clock takes the call's time, and besides: its response count rises; its operation is over
 unfoldable pub raised : Lone → ℕ → Lone
-raised h now = record { state = counted (h .state) now; readings = h .readings }
+raised h now = record { state = countedAt (h .state) now; readings = h .readings }
 
 unfoldable pub failed : Lone → ℕ → Lone
-failed h now = record { state = movedBy (h .state) now noCommand idle effect.Nothing; readings = h .readings }
+failed h now = record { state = stateBy (h .state) now noCommand noOperation effect.Nothing; readings = h .readings }
 
 -- A refused call changes nothing, 14 to 18 and 20 apart; no call changes what is held for a motor that it isn't for; a removed
 -- motor's place is free. 14 and 15 change of their motor the clock and the response count, nothing else; 16, 17, 18 and 20 the clock
@@ -130,9 +130,9 @@ pub record Demand1 : Type 0 where
   pub refused : (s : List Place) (c : Asked) → inert ((stationCall s c) .0) ≡ true → (stationCall s c) .1 ≡ s
   pub others : (s : List Place) (m : ℕ) (c : Asked) → mine m c ≡ false → held ((stationCall s c) .1) m ≡ held s m
   pub freed : (s : List Place) (m now : ℕ) → Distinct s → (stationCall s (remove m now)) .0 ≡ ok → held ((stationCall s (remove m now)) .1) m ≡ none
-  pub counted : (s : List Place) (f : CanFrame) (now : ℕ) (h : Lone) → Distinct s → held s (source f) ≡ some h
+  pub counted : (s : List Place) (f : CanFrame) (now : ℕ) (h : Lone) → Distinct s → held s (sourceOf f) ≡ some h
       → among (number ((stationCall s (frame f now)) .0)) (14 ∷ 15 ∷ []) ≡ true
-      → held ((stationCall s (frame f now)) .1) (source f) ≡ some (raised h now)
+      → held ((stationCall s (frame f now)) .1) (sourceOf f) ≡ some (raised h now)
   pub ended : (s : List Place) (m now : ℕ) (h : Lone) → Distinct s → held s m ≡ some h
       → among (number ((stationCall s (step m now)) .0)) (16 ∷ 17 ∷ 18 ∷ 20 ∷ []) ≡ true
       → held ((stationCall s (step m now)) .1) m ≡ some (failed h now)

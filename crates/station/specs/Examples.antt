@@ -15,12 +15,12 @@ use Rattle.codec.specs.declared.protocol.ParameterValue.{ParameterValue}
 use Rattle.codec.specs.declared.protocol.ParameterValue.the-variants as value
 use Rattle.codec.specs.declared.registers.ControlMode.the-variants as mode
 use Rattle.codec.specs.Examples as codec
-use Rattle.codec.specs.Ids.{joined}
-use Rattle.codec.specs.Kinds.{among, listedIds, int8Ids, uint8Ids, uint16Ids, uint32Ids, kindOf, infoOf}
+use Rattle.codec.specs.Ids.{buildExtId}
+use Rattle.codec.specs.Kinds.{among, listedIds, int8Ids, uint8Ids, uint16Ids, uint32Ids, kindOf, parameterInfo}
 use Rattle.codec.specs.Models.{rs, sameBytes, namedAmong, modelNamed}
-use Rattle.codec.specs.Modes.{modeRead}
+use Rattle.codec.specs.Modes.{controlModeFromRaw}
 use Rattle.codec.specs.Refusals.{numberOf, valuesOf}
-use Rattle.codec.specs.Replies.{zeros, pingAnswer, versionAnswer}
+use Rattle.codec.specs.Replies.{zeros, decodePingReply, decodeVersionReply}
 use Rattle.motor.specs.declared.engine.command.Command.{Command}
 use Rattle.motor.specs.declared.engine.command.Command.the-variants as command
 use Rattle.motor.specs.declared.engine.command.Outcome.the-variants as outcome
@@ -28,20 +28,20 @@ use Rattle.motor.specs.declared.engine.command.Said.{Said}
 use Rattle.motor.specs.declared.engine.command.Said.the-variants as said
 use Rattle.motor.specs.declared.engine.candidates.Candidates.{Candidates}
 use Rattle.motor.specs.declared.engine.reading.Found.the-variants as found
-use Rattle.motor.specs.engine.Hosts.{candidatesOf}
+use Rattle.motor.specs.engine.Hosts.{hostCandidates}
 use Rattle.motor.specs.engine.Requests.{noFrame}
 use Rattle.motor.specs.engine.Script.{isMode}
 use Rattle.motor.specs.declared.feedback.Latest.{Latest}
 use Rattle.motor.specs.declared.feedback.Latest.the-variants as latest
 use Rattle.motor.specs.Lone.{Lone, hears}
 use Rattle.motor.specs.Readings.{run}
-use Rattle.motor.specs.Receive.{accepts, late, counted, pingAfter, feedbackIn, nextSequence, feedbackAfter, faultAfter, told, isRead, readStatus, readId, readStored, frameSaid, stateAfter, readingsAfter}
+use Rattle.motor.specs.Receive.{acceptsFrame, isLate, countedAt, pingAfter, feedbackIn, nextSequence, feedbackAfter, faultAfter, toldBy, isRead, readStatus, readId, readStored, frameSaid, stateAfter, readingsAfter}
 use Rattle.motor.specs.Runs.{word, bytes, sending, received}
 use Rattle.station.specs.declared.call.Answer.{Answer}
 use Rattle.station.specs.declared.call.Answer.the-variants as answer
 use Rattle.station.specs.declared.call.Asked.{Asked}
 use Rattle.station.specs.Calls.{register, start, step, frame, Reply, ok, no, says, refused}
-use Rattle.station.specs.Station.{Place, empty, held, isSome, full, add, put, place, movesTo, hearsTo, leaves, loneBy, route, admission, enter, admit, source, stationBy, stationCall}
+use Rattle.station.specs.Station.{Place, empty, held, isSome, full, add, put, place, movesTo, hearsTo, leaves, loneBy, route, admission, enter, admit, sourceOf, stationBy, stationCall}
 use Rattle.station.specs.History.{after}
 use Rattle.station.specs.Demand2.{reading}
 
@@ -101,7 +101,7 @@ abbrev pub acknowledges : ℕ → Asked
 acknowledges now = frame (received 0x028001FD zeros) now
 
 abbrev pub replies : ℕ → ℕ → ℕ → ℕ → ℕ → ℕ → ℕ → ℕ → Asked
-replies m low high a b c d now = frame (received (joined 17 m 0xFD) (bytes low high 0 0 a b c d)) now
+replies m low high a b c d now = frame (received (buildExtId 17 m 0xFD) (bytes low high 0 0 a b c d)) now
 
 -- run_mode as motor 1 gives it
 abbrev pub mode-is : ℕ → ℕ → Asked
@@ -125,7 +125,7 @@ Holds (refuses-last s cs c n ∷ rows) = (refusedIn ((stationCall (after s cs) c
 Holds (holds s cs m id v ∷ rows) = (reading id (held (after s cs) m) ≡ found.Held (record { value = v })) × Holds rows
 Holds (status s cs m v ∷ rows) = (flags (held (after s cs) m) ≡ v) × Holds rows
 Holds (decoder c n ∷ rows) = (refusedBy c ≡ n) × Holds rows
-Holds (hosts own v ∷ rows) = (candidatesOf own ≡ v) × Holds rows
+Holds (hosts own v ∷ rows) = (hostCandidates own ≡ v) × Holds rows
 
 -- the starred ones, and the host candidates
 abbrev pub marked : List Row
@@ -183,8 +183,8 @@ numbers =
     ∷ refuses-last one [] (call (command.SetDeviceId 0)) (pos 19 ∷ [])
     ∷ refuses-last one (call (command.GetParameterF32 0x7005 200) ∷ mode-is 2 120 ∷ []) (step 1 120) (pos 20 ∷ [])
     ∷ refuses-last one [] (step 1 100) (pos 21 ∷ [])
-    ∷ decoder (pingAnswer 0x010001FD zeros .said) (pos 22 ∷ [])
-    ∷ decoder (versionAnswer 0x020001FD (bytes 0x01 0 0 0 0 0 0 0) .said) (pos 23 ∷ [])
+    ∷ decoder (decodePingReply 0x010001FD zeros .said) (pos 22 ∷ [])
+    ∷ decoder (decodeVersionReply 0x020001FD (bytes 0x01 0 0 0 0 0 0 0) .said) (pos 23 ∷ [])
     ∷ []
 
 -- ---- the incident: flaps 2 and 6 both read their angle, 7019, and the replies come in either order. Each has its own: 1.5 and −2.0
@@ -220,7 +220,7 @@ abbrev pub Examples : Type 0
 Examples = codec.Holds codec.examples × Holds marked × Holds numbers × Holds flaps
 
 pub examples-hold : Examples
-unfolding answers after one reading flags flagsIn refusedIn refusedBy failedBy run sameBytes namedAmong stationBy empty held isSome full add put place movesTo hearsTo leaves loneBy route admission enter admit source refused hears frameSaid stateAfter readingsAfter accepts late counted told pingAfter feedbackIn nextSequence feedbackAfter faultAfter isRead readStatus readId readStored among listedIds int8Ids uint8Ids uint16Ids uint32Ids kindOf infoOf modeRead isMode candidatesOf
+unfolding answers after one reading flags flagsIn refusedIn refusedBy failedBy run sameBytes namedAmong stationBy empty held isSome full add put place movesTo hearsTo leaves loneBy route admission enter admit sourceOf refused hears frameSaid stateAfter readingsAfter acceptsFrame isLate countedAt toldBy pingAfter feedbackIn nextSequence feedbackAfter faultAfter isRead readStatus readId readStored among listedIds int8Ids uint8Ids uint16Ids uint32Ids kindOf parameterInfo controlModeFromRaw isMode hostCandidates
 examples-hold = (
   codec.examples-hold,
   (refl, (refl, (refl, (refl, (refl, (refl, (refl, tt))))))),

@@ -5,7 +5,7 @@ use mathlib.Core.List.{List, [], _∷_, map}
 use mathlib.Core.Option.{Option, none, some}
 use lib.Dec.{eqb}
 use Rattle.motor.specs.Lone.{Lone}
-use Rattle.motor.specs.Receive.{accepts}
+use Rattle.motor.specs.Receive.{acceptsFrame}
 use Rattle.codec.specs.declared.bus.CanFrame.{CanFrame}
 use Rattle.codec.specs.declared.error.Checked.the-variants as checked
 use Rattle.station.specs.declared.call.Answer.{Answer}
@@ -25,7 +25,7 @@ unfoldable pub mineBy : ℕ → Call → CanFrame → Bool
 mineBy m (call.Register i host model wait time) f = eqb i m
 mineBy m (call.Start i c now) f = eqb i m
 mineBy m (call.Step i now) f = eqb i m
-mineBy m (call.Frame now) f = accepts m f
+mineBy m (call.Frame now) f = acceptsFrame m f
 mineBy m (call.Look i) f = eqb i m
 mineBy m (call.Remove i now) f = eqb i m
 

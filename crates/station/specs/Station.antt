@@ -16,7 +16,7 @@ use Rattle.codec.specs.declared.model.ModelNamed.the-variants as named
 use Rattle.motor.specs.Calls.{registerNumbers}
 use Rattle.motor.specs.Lone.{Lone, LoneAnswered, LoneHeard, loneNew, loneAgain, loneStart, loneStep, hears, loneLook, loneRemoval}
 use Rattle.motor.specs.Numbers.{firstOf}
-use Rattle.motor.specs.Receive.{frameExtra, accepts}
+use Rattle.motor.specs.Receive.{frameExtra, acceptsFrame}
 use Rattle.station.specs.declared.call.Asked.{Asked}
 use Rattle.station.specs.declared.call.Call.{Call}
 use Rattle.station.specs.declared.call.Call.the-variants as call
@@ -117,8 +117,8 @@ admit checked.Passed s m host model wait time = enter s m host model wait time
 admit (checked.Refused r) s m host model wait time = (no r, s)
 
 -- the motor that a frame comes from: the low byte of the extra field
-unfoldable pub source : CanFrame → ℕ
-source f = frameExtra f % 256
+unfoldable pub sourceOf : CanFrame → ℕ
+sourceOf f = frameExtra f % 256
 
 -- to the motor of an id: 6, then the motor's numbers
 abbrev pub toMotor : List Place → ℕ → Call → CanFrame → Reply × List Place
@@ -127,13 +127,13 @@ toMotor s m c f = route s m (held s m) (refuses c refusal.IdNotRegistered) (λ h
 -- to the motor that a frame comes from: 13, then the motor's numbers
 abbrev pub toSource : List Place → CanFrame → ℕ → Reply × List Place
 toSource s f now =
-    route s (source f) (held s (source f)) (refuses (call.Frame now) refusal.FrameNotAccepted) (λ h. loneBy h (call.Frame now) f)
+    route s (sourceOf f) (held s (sourceOf f)) (refuses (call.Frame now) refusal.FrameNotAccepted) (λ h. loneBy h (call.Frame now) f)
 
 unfoldable pub stationBy : List Place → Call → CanFrame → Reply × List Place
 stationBy s (call.Register m host model wait time) f = admit (admission s m host model wait time) s m host model wait time
 stationBy s (call.Start m c now) f = toMotor s m (call.Start m c now) f
 stationBy s (call.Step m now) f = toMotor s m (call.Step m now) f
-stationBy s (call.Frame now) f = cond (accepts (source f) f) (toSource s f now) (no refusal.FrameNotAccepted, s)
+stationBy s (call.Frame now) f = cond (acceptsFrame (sourceOf f) f) (toSource s f now) (no refusal.FrameNotAccepted, s)
 stationBy s (call.Look m) f = toMotor s m (call.Look m) f
 stationBy s (call.Remove m now) f = toMotor s m (call.Remove m now) f
 

@@ -24,7 +24,7 @@ use Rattle.motor.specs.Calls.{registrationOf}
 use Rattle.motor.specs.Lone.{Lone}
 use Rattle.motor.specs.Motors.{newMotor, startOf, stepOf, lookOf, removalOf}
 use Rattle.motor.specs.Readings.{Holds}
-use Rattle.motor.specs.Receive.{accepts, heardOf}
+use Rattle.motor.specs.Receive.{acceptsFrame, processFeedbackFrame}
 use Rattle.station.specs.declared.station.Station.{Station}
 use Rattle.station.specs.declared.station.After.{After}
 use Rattle.station.specs.declared.station.Looked.{Looked}
@@ -35,7 +35,7 @@ use Rattle.station.specs.declared.call.Call.the-variants as call
 use Rattle.station.specs.declared.call.Replied.{Replied}
 use Rattle.station.specs.Limits.{mostMotors}
 use Rattle.station.specs.Calls.{reply, told, moved, Reply, gives, shows}
-use Rattle.station.specs.Station.{Place, free, taken, source}
+use Rattle.station.specs.Station.{Place, free, taken, sourceOf}
 
 -- ---- places
 
@@ -47,13 +47,13 @@ unfoldable pub newStation : Station
 newStation = record { motors = replicate mostMotors freeMotor }
 
 -- the first place of an id, the number of places where there is none
-unfoldable pub indexOf : List Motor → ℕ → ℕ
-indexOf [] id = zero
-indexOf (m ∷ ms) id = cond (eqb (m .state .«motor_id») id) zero (suc (indexOf ms id))
+unfoldable pub placeOf : List Motor → ℕ → ℕ
+placeOf [] id = zero
+placeOf (m ∷ ms) id = cond (eqb (m .state .«motor_id») id) zero (suc (placeOf ms id))
 
 -- the place of a registered id, 8 where it isn't registered
 unfoldable pub takenPlace : List Motor → ℕ → ℕ
-takenPlace ms id = cond (eqb id 0) mostMotors (indexOf ms id)
+takenPlace ms id = cond (eqb id 0) mostMotors (placeOf ms id)
 
 abbrev pub motorAt : Station → ℕ → Motor
 motorAt st i = getD (st .motors) i freeMotor
@@ -71,50 +71,50 @@ atPlace st id found none = cond (ltb (takenPlace (st .motors) id) mostMotors) (f
 abbrev pub left : Station → Replied → After
 left st r = record { station = st; replied = r }
 
-abbrev pub tells : Station → Checked → After
-tells st said = left st (told said)
+abbrev pub tell : Station → Checked → After
+tell st said = left st (told said)
 
 abbrev pub movedAt : Station → ℕ → Answered → After
 movedAt st i a = left (withMotor st i (a .motor)) (moved (a .said) (a .frame) (a .result))
 
-abbrev pub unmoved : Station → After
-unmoved st = left st (reply (answer.Moved (said.Refused refusal.IdNotRegistered)))
+abbrev pub notMoved : Station → After
+notMoved st = left st (reply (answer.Moved (said.Refused refusal.IdNotRegistered)))
 
 abbrev pub heardAt : Station → ℕ → Heard → After
-heardAt st i h = tells (withMotor st i (h .motor)) (h .said)
+heardAt st i h = tell (withMotor st i (h .motor)) (h .said)
 
 abbrev pub removedAt : Checked → Station → ℕ → After
-removedAt checked.Passed st i = tells (withMotor st i freeMotor) checked.Passed
-removedAt (checked.Refused r) st i = tells st (checked.Refused r)
+removedAt checked.Passed st i = tell (withMotor st i freeMotor) checked.Passed
+removedAt (checked.Refused r) st i = tell st (checked.Refused r)
 
 -- the first free place is that of the id 0
 unfoldable pub enteredIn : Station → Motor → After
 enteredIn st m =
-    cond (ltb (indexOf (st .motors) 0) mostMotors)
-    (tells (withMotor st (indexOf (st .motors) 0) m) checked.Passed)
-    (tells st (checked.Refused refusal.StationFull))
+    cond (ltb (placeOf (st .motors) 0) mostMotors)
+    (tell (withMotor st (placeOf (st .motors) 0) m) checked.Passed)
+    (tell st (checked.Refused refusal.StationFull))
 
 unfoldable pub admittedIn : Station → ℕ → ℕ → Model → ℕ → ℕ → After
 admittedIn st id host model wait time =
-    atPlace st id (λ i. tells st (checked.Refused refusal.IdRegistered)) (enteredIn st (newMotor id host model wait time))
+    atPlace st id (λ i. tell st (checked.Refused refusal.IdRegistered)) (enteredIn st (newMotor id host model wait time))
 
 abbrev pub registerBy : Admission → Station → ℕ → ℕ → ℕ → ℕ → After
 registerBy (admission.Admitted model) st id host wait time = admittedIn st id host model wait time
-registerBy (admission.Refused r) st id host wait time = tells st (checked.Refused r)
+registerBy (admission.Refused r) st id host wait time = tell st (checked.Refused r)
 
 unfoldable pub registerIn : Station → ℕ → ℕ → ModelNamed → ℕ → ℕ → After
 registerIn st id host model wait time = registerBy (registrationOf id host model wait time) st id host wait time
 
 unfoldable pub startIn : Station → ℕ → Command → ℕ → After
-startIn st id c now = atPlace st id (λ i. movedAt st i (startOf (motorAt st i) c now)) (unmoved st)
+startIn st id c now = atPlace st id (λ i. movedAt st i (startOf (motorAt st i) c now)) (notMoved st)
 
 unfoldable pub stepIn : Station → ℕ → ℕ → After
-stepIn st id now = atPlace st id (λ i. movedAt st i (stepOf (motorAt st i) now)) (unmoved st)
+stepIn st id now = atPlace st id (λ i. movedAt st i (stepOf (motorAt st i) now)) (notMoved st)
 
 unfoldable pub frameIn : Station → CanFrame → ℕ → After
 frameIn st f now =
-    let other = tells st (checked.Refused refusal.FrameNotAccepted) in
-    cond (accepts (source f) f) (atPlace st (source f) (λ i. heardAt st i (heardOf (motorAt st i) f now)) other) other
+    let other = tell st (checked.Refused refusal.FrameNotAccepted) in
+    cond (acceptsFrame (sourceOf f) f) (atPlace st (sourceOf f) (λ i. heardAt st i (processFeedbackFrame (motorAt st i) f now)) other) other
 
 unfoldable pub lookIn : Station → ℕ → Looked
 lookIn st id =
@@ -123,7 +123,7 @@ lookIn st id =
 
 unfoldable pub removeIn : Station → ℕ → ℕ → After
 removeIn st id now =
-    atPlace st id (λ i. removedAt (removalOf (motorAt st i) now) st i) (tells st (checked.Refused refusal.IdNotRegistered))
+    atPlace st id (λ i. removedAt (removalOf (motorAt st i) now) st i) (tell st (checked.Refused refusal.IdNotRegistered))
 
 -- a look's reply; what it shows stands beside it
 abbrev pub lookedIn : Station → ℕ → After

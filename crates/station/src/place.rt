@@ -7,7 +7,7 @@ ghost use mathlib.Core.Path.{_≡_};
 ghost use Prim.Native.Nat.{_<_};
 ghost use lib.ListN.{length, getD, set};
 ghost use Rattle.station.specs.Limits.{mostMotors};
-ghost use Rattle.station.specs.Stations.{freeMotor, indexOf, takenPlace};
+ghost use Rattle.station.specs.Stations.{freeMotor, placeOf, takenPlace};
 
 // What stands in a free place.
 pub(crate) fn free_motor() -> Motor
@@ -18,7 +18,7 @@ pub(crate) fn free_motor() -> Motor
 
 // The first place of an id, 8 where there is none. That of 0 is the first free place.
 pub(crate) fn place_of(motors: [Motor; MOTORS], id: u16) -> usize
-    ensures { λ r. ⌜ (r ≡ indexOf motors id) × (length motors ≡ mostMotors) ⌝ }
+    ensures { λ r. ⌜ (r ≡ placeOf motors id) × (length motors ≡ mostMotors) ⌝ }
 {
     let mut i: usize = 0;
     while i < MOTORS {

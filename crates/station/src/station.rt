@@ -32,8 +32,8 @@ ghost use Prim.Native.Nat.{_<_};
 ghost use Rattle.codec.specs.Models.{modelNamed};
 ghost use Rattle.station.specs.Limits.{mostMotors};
 ghost use Rattle.station.specs.Calls as asked;
-ghost use Rattle.station.specs.Station.{Place, source, empty, stationCall};
-ghost use Rattle.station.specs.Stations.{newStation, withMotor, tells, movedAt, unmoved, heardAt, removedAt, admittedIn, registerIn, startIn, stepIn, frameIn, lookIn, removeIn};
+ghost use Rattle.station.specs.Station.{Place, sourceOf, empty, stationCall};
+ghost use Rattle.station.specs.Stations.{newStation, withMotor, tell, movedAt, notMoved, heardAt, removedAt, admittedIn, registerIn, startIn, stepIn, frameIn, lookIn, removeIn};
 ghost use Rattle.station.specs.Stations.{Shows, LeavesAs, replyOf};
 
 // Eight places, each free or taken by a motor.
@@ -74,7 +74,7 @@ fn with_motor(st: Station, i: usize, m: Motor) -> Station
 }
 
 fn tell(station: Station, said: Checked) -> After
-    ensures { λ r. ⌜ r ≡ tells station said ⌝ }
+    ensures { λ r. ⌜ r ≡ tell station said ⌝ }
 {
     let replied = told(said);
     After { station, replied }
@@ -126,7 +126,7 @@ fn moved_at(st: Station, i: usize, a: Answered) -> After
 
 // 6.
 fn not_moved(station: Station) -> After
-    ensures { λ r. ⌜ r ≡ unmoved station ⌝ }
+    ensures { λ r. ⌜ r ≡ notMoved station ⌝ }
 {
     let replied = reply(Answer::Moved(Said::Refused(Refusal::IdNotRegistered)));
     After { station, replied }
@@ -164,7 +164,7 @@ pub fn step(st: Station, id: u16, now: u64) -> After
 
 // The id of the motor that a frame comes from.
 pub(crate) fn source_of(frame: CanFrame) -> u16
-    ensures { λ r. ⌜ r ≡ source frame ⌝ }
+    ensures { λ r. ⌜ r ≡ sourceOf frame ⌝ }
 {
     let parts = ext_id_parts(frame.arbitration_id);
     parts.extra_data % 256

@@ -8,7 +8,7 @@ use lib.ListN.{length, take, drop, getD, set, length-append, length-set}
 use lib.Seq.{take-suc-set, take-suc}
 use lib.Dec.{ltb}
 use borrow.Author.Tests.{lt-ltb, le-ltb}
-use Rattle.text.specs.Put.{Put, digitsOf, decimalIn, glyphOf}
+use Rattle.text.specs.Put.{Put, digitsText, decimalIn, glyphOf}
 
 pub put-nil : (l : List ℕ) (at : ℕ) → Put l at [] l at
 put-nil l at = record { same = refl; next = λ h. omega arith; text = λ h. sym (append-nil (take at l)) }
@@ -36,12 +36,12 @@ put-then {l₀} {l₁} {l₂} {a} {b} {p} {q} {r} x y =
           y .text h₂ ∙ ap (λ (l : List ℕ). l ++ b) (x .text (omega arith)) ∙ append-assoc (take p l₀) a b;
     }
 
-pub digits-none : (base k n : ℕ) → k ≡ 0 → digitsOf base k n ≡ []
-unfolding digitsOf
+pub digits-none : (base k n : ℕ) → k ≡ 0 → digitsText base k n ≡ []
+unfolding digitsText
 digits-none base k n e = rw e
 
-pub digits-more : (base k n : ℕ) → (k ≡ 0 → ⊥) → digitsOf base k n ≡ digitsOf base (k - 1) (n / base) ++ (glyphOf (n % base) ∷ [])
-unfolding digitsOf
+pub digits-more : (base k n : ℕ) → (k ≡ 0 → ⊥) → digitsText base k n ≡ digitsText base (k - 1) (n / base) ++ (glyphOf (n % base) ∷ [])
+unfolding digitsText
 digits-more base zero n e = absurd (e refl)
 digits-more base (suc k) n e = let p : suc k - 1 ≡ k = omega arith in rw p
 

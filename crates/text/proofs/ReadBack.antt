@@ -11,9 +11,9 @@ use lib.Seq.{take-length, take-at, drop-append-add}
 use borrow.Author.Tests.{ltb-true, ltb-false, lt-ltb, le-ltb, ne-eqb}
 use Rattle.bytes.specs.Bytes.{indexOf, indexAfter}
 use Rattle.text.specs.declared.numbers.Num.the-variants.{Value}
-use Rattle.text.specs.Numbers.{digitOf, readFrom, inBase}
-use Rattle.text.specs.Put.{glyphOf, digitsOf, decimalIn}
-use Rattle.text.specs.Words.{wordsIn, wordAt}
+use Rattle.text.specs.Numbers.{digitOf, readFrom, digitsIn}
+use Rattle.text.specs.Put.{glyphOf, digitsText, decimalIn}
+use Rattle.text.specs.Words.{wordCount, wordAt}
 use Rattle.text.proofs.Reading.{some}
 
 -- ---- digits
@@ -45,8 +45,8 @@ unfolding readFrom
 read-glyph base n d s h b w = rw (digit-glyph d (omega arith), lt-ltb _ _ h, lt-ltb _ _ w)
 
 module _ (base : ℕ) (pos : 0 < base) (few : base ≤ 16) where
-  pub read-digits : (k n : ℕ) (s : List ℕ) → n < base ^ k → n < 18446744073709551616 → readFrom base 0 (digitsOf base k n ++ s) ≡ readFrom base n s
-  unfolding digitsOf
+  pub read-digits : (k n : ℕ) (s : List ℕ) → n < base ^ k → n < 18446744073709551616 → readFrom base 0 (digitsText base k n ++ s) ≡ readFrom base n s
+  unfolding digitsText
   read-digits zero n s h w = let z : 0 ≡ n = omega (arith, rw pow-zero at h) in rw z
   read-digits (suc k) n s h w =
       let e : n / base * base + n % base ≡ n = div-add-mod' n base in
@@ -69,15 +69,15 @@ read-decimal (suc k) n s h w = go (ltb n 10) refl (read-decimal k (n / 10) (glyp
         let t : n / 10 * 10 + n % 10 ≡ n = omega arith in
         rw append-assoc (i q (omega arith) ∙ read-glyph 10 (n / 10) (n % 10) s (omega arith) (omega arith) (omega arith) ∙ rw t)
 
-pub digits-length : (base k n : ℕ) → length (digitsOf base k n) ≡ k
-unfolding digitsOf
+pub digits-length : (base k n : ℕ) → length (digitsText base k n) ≡ k
+unfolding digitsText
 digits-length base zero n = refl
 digits-length base (suc k) n = rw length-append (omega (arith, digits-length base k (n / base)))
 
-pub digits-back : (base k n : ℕ) → 0 < base → base ≤ 16 → 0 < k → n < base ^ k → n < 18446744073709551616 → inBase base (digitsOf base k n) ≡ Value n
+pub digits-back : (base k n : ℕ) → 0 < base → base ≤ 16 → 0 < k → n < base ^ k → n < 18446744073709551616 → digitsIn base (digitsText base k n) ≡ Value n
 unfolding readFrom
 digits-back base k n p f z h w =
-    some base (digitsOf base k n) (rw digits-length z) ∙ (rw append-nil at (read-digits base p f k n [] h w))
+    some base (digitsText base k n) (rw digits-length z) ∙ (rw append-nil at (read-digits base p f k n [] h w))
 
 pub decimal-some : (k n : ℕ) → 0 < length (decimalIn (suc k) n)
 unfolding decimalIn
@@ -87,7 +87,7 @@ decimal-some k n = go (ltb n 10)
     go true = omega arith
     go false = rw length-append (omega arith)
 
-pub decimal-back : (k n : ℕ) → n < 10 ^ suc k → n < 18446744073709551616 → inBase 10 (decimalIn (suc k) n) ≡ Value n
+pub decimal-back : (k n : ℕ) → n < 10 ^ suc k → n < 18446744073709551616 → digitsIn 10 (decimalIn (suc k) n) ≡ Value n
 unfolding readFrom
 decimal-back k n h w = some 10 (decimalIn (suc k) n) (decimal-some k n) ∙ (rw append-nil at (read-decimal (suc k) n [] h w))
 
@@ -112,12 +112,12 @@ module _ (b : ℕ) where
   unfolding indexOf indexAfter
   free-glyph d h l = rw (ne-eqb (glyphOf d) b (λ e. omega (arith, glyph-range d h .0)))
 
-  pub digits-free : (base k n : ℕ) → 0 < base → base ≤ 16 → b < 48 → indexOf b (digitsOf base k n) ≡ length (digitsOf base k n)
-  unfolding digitsOf indexOf
+  pub digits-free : (base k n : ℕ) → 0 < base → base ≤ 16 → b < 48 → indexOf b (digitsText base k n) ≡ length (digitsText base k n)
+  unfolding digitsText indexOf
   digits-free base zero n p f l = refl
   digits-free base (suc k) n p f l =
       let m : n % base < base = mod-lt n p in
-      free-append (digitsOf base k (n / base)) (glyphOf (n % base) ∷ []) (digits-free base k (n / base) p f l) (free-glyph (n % base) (omega arith) l)
+      free-append (digitsText base k (n / base)) (glyphOf (n % base) ∷ []) (digits-free base k (n / base) p f l) (free-glyph (n % base) (omega arith) l)
 
   pub decimal-free : (k n : ℕ) → b < 48 → indexOf b (decimalIn k n) ≡ length (decimalIn k n)
   unfolding decimalIn indexOf
@@ -142,15 +142,15 @@ module _ (s : List ℕ) (free : indexOf 32 s ≡ length s) where
   unfolding wordAt
   word-only = rw (free, take-length)
 
-  pub words-past : (t : List ℕ) → wordsIn (s ++ t) ≡ wordsIn t
-  unfolding wordsIn indexOf indexAfter
+  pub words-past : (t : List ℕ) → wordCount (s ++ t) ≡ wordCount t
+  unfolding wordCount indexOf indexAfter
   words-past t = go s free
     where
-      go : (s : List ℕ) → indexOf 32 s ≡ length s → wordsIn (s ++ t) ≡ wordsIn t
+      go : (s : List ℕ) → indexOf 32 s ≡ length s → wordCount (s ++ t) ≡ wordCount t
       go [] e = refl
       go (x ∷ s) e = by (eqb x 32) (go s) e
         where
-          by : (c : Bool) → (indexOf 32 s ≡ length s → wordsIn (s ++ t) ≡ wordsIn t)
-              → indexAfter c (indexOf 32 s) ≡ suc (length s) → cond c (wordsIn (s ++ t) + 1) (wordsIn (s ++ t)) ≡ wordsIn t
+          by : (c : Bool) → (indexOf 32 s ≡ length s → wordCount (s ++ t) ≡ wordCount t)
+              → indexAfter c (indexOf 32 s) ≡ suc (length s) → cond c (wordCount (s ++ t) + 1) (wordCount (s ++ t)) ≡ wordCount t
           by true i e = absurd (omega arith)
           by false i e = i (omega arith)

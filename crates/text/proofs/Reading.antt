@@ -13,8 +13,8 @@ use lib.Dec.{eqb}
 use borrow.Author.Tests.{lt-ltb, le-ltb, eq-eqb, ne-eqb}
 use Rattle.text.specs.declared.numbers.Num.{Num}
 use Rattle.text.specs.declared.numbers.Num.the-variants.{Value, Bad}
-use Rattle.text.specs.Numbers.{digitOf, readFrom, inBase}
-use Rattle.text.specs.Words.{wordsIn, partAt, wordAt, pastWord, sameBytes, whichOf}
+use Rattle.text.specs.Numbers.{digitOf, readFrom, digitsIn}
+use Rattle.text.specs.Words.{wordCount, partAt, wordAt, pastWord, sameBytes, whichOf}
 
 -- the test before a multiplication is right: it refuses what reaches 2^64, and nothing else
 pub over : (base d n : ℕ) → 0 < base → d < base → base ≤ 16 → (18446744073709551615 - d) / base < n → 18446744073709551616 ≤ n * base + d
@@ -23,13 +23,13 @@ over base d n b l s h = let p : 18446744073709551615 - d < n * base = div-lt-iff
 pub within : (base d n : ℕ) → 0 < base → d < base → base ≤ 16 → n ≤ (18446744073709551615 - d) / base → n * base + d < 18446744073709551616
 within base d n b l s h = let p : n * base ≤ 18446744073709551615 - d = le-div-iff-mul-le b .0 h in omega arith
 
-pub some : (base : ℕ) (s : List ℕ) → 0 < length s → inBase base s ≡ readFrom base 0 s
-unfolding inBase
+pub some : (base : ℕ) (s : List ℕ) → 0 < length s → digitsIn base s ≡ readFrom base 0 s
+unfolding digitsIn
 some base [] h = absurd (omega arith)
 some base (b ∷ s) h = refl
 
-pub none : (base : ℕ) (s : List ℕ) → length s ≡ 0 → inBase base s ≡ Bad
-unfolding inBase
+pub none : (base : ℕ) (s : List ℕ) → length s ≡ 0 → digitsIn base s ≡ Bad
+unfolding digitsIn
 none base [] h = refl
 none base (b ∷ s) h = absurd (omega arith)
 
@@ -51,16 +51,16 @@ module _ (base n : ℕ) (s : List ℕ) (i : ℕ) (h : i < length s) where
   read-on l o = rw (drop-cons s i 0 h, lt-ltb _ _ l, lt-ltb _ _ o, add-one)
 
 module _ (s : List ℕ) (i : ℕ) (h : i < length s) where
-  pub words-space : getD s i 0 ≡ 32 → wordsIn (drop i s) ≡ wordsIn (drop (i + 1) s) + 1
-  unfolding wordsIn
+  pub words-space : getD s i 0 ≡ 32 → wordCount (drop i s) ≡ wordCount (drop (i + 1) s) + 1
+  unfolding wordCount
   words-space e = rw (drop-cons s i 0 h, eq-eqb _ _ e, add-one i)
 
-  pub words-other : (getD s i 0 ≡ 32 → ⊥) → wordsIn (drop i s) ≡ wordsIn (drop (i + 1) s)
-  unfolding wordsIn
+  pub words-other : (getD s i 0 ≡ 32 → ⊥) → wordCount (drop i s) ≡ wordCount (drop (i + 1) s)
+  unfolding wordCount
   words-other e = rw (drop-cons s i 0 h, ne-eqb _ _ e, add-one i)
 
-pub words-done : (s : List ℕ) → wordsIn (drop (length s) s) ≡ 1
-unfolding wordsIn
+pub words-done : (s : List ℕ) → wordCount (drop (length s) s) ≡ 1
+unfolding wordCount
 words-done s = rw drop-length
 
 -- a search of the whole of s

@@ -6,7 +6,7 @@ use mathlib.Core.List.{List, [], _∷_, _++_}
 use native.Mathlib.Omega.{arith}
 use lib.Dec.{eqb, ltb}
 use lib.ListN.{length, getD, length-append, length-take, length-drop}
-use Rattle.text.specs.Put.{digitsOf, decimalIn}
+use Rattle.text.specs.Put.{digitsText, decimalIn}
 use Rattle.text.specs.Fields.{placesOf, fieldText, fieldsUpto, fieldsText}
 use Rattle.text.specs.Words.{wordAt, pastWord}
 
@@ -31,8 +31,8 @@ pub either : (c : Bool) {a b : List ℕ} {n : ℕ} → Short a n → Short b n �
 either true x y = x
 either false x y = y
 
-pub digits-short : (base k n : ℕ) → Short (digitsOf base k n) k
-unfolding digitsOf
+pub digits-short : (base k n : ℕ) → Short (digitsText base k n) k
+unfolding digitsText
 digits-short base zero n = none
 digits-short base (suc k) n = wider (digits-short base k (n / base) & words (_ ∷ [])) (omega arith)
 

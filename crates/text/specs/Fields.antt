@@ -4,14 +4,14 @@ use mathlib.Core.Bool.{cond}
 use mathlib.Core.List.{List, [], _∷_, _++_}
 use lib.Dec.{eqb, ltb}
 use lib.ListN.{length, getD}
-use Rattle.text.specs.Put.{digitsOf, decimalOf}
+use Rattle.text.specs.Put.{digitsText, decimalText}
 
 -- how many hexadecimal digits a letter asks for: 1, 2, 4, 8, and 16 for P; 0, for a decimal number, for any other
 abbrev pub placesOf : ℕ → ℕ
 placesOf letter = cond (eqb letter 0x31) 1 (cond (eqb letter 0x32) 2 (cond (eqb letter 0x34) 4 (cond (eqb letter 0x38) 8 (cond (eqb letter 0x50) 16 0))))
 
 abbrev pub shownIn : ℕ → ℕ → List ℕ
-shownIn places n = cond (eqb places 0) (decimalOf n) (digitsOf 16 places n)
+shownIn places n = cond (eqb places 0) (decimalText n) (digitsText 16 places n)
 
 -- a space, and a number as its letter says
 abbrev pub fieldText : ℕ → ℕ → List ℕ

@@ -26,10 +26,10 @@ readFrom base n (b ∷ s) =
     Bad
 
 -- one digit or more, in base
-unfoldable pub inBase : ℕ → List ℕ → Num
-inBase base [] = Bad
-inBase base (b ∷ s) = readFrom base 0 (b ∷ s)
+unfoldable pub digitsIn : ℕ → List ℕ → Num
+digitsIn base [] = Bad
+digitsIn base (b ∷ s) = readFrom base 0 (b ∷ s)
 
 -- decimal, or hexadecimal after 0x
-unfoldable pub numberOf : List ℕ → Num
-numberOf w = pick (leb (length w) 2) (inBase 10 w) (pick (eqb (getD w 0 0) 48) (pick (eqb (getD w 1 0) 120) (inBase 16 (drop 2 w)) (inBase 10 w)) (inBase 10 w))
+unfoldable pub numberIn : List ℕ → Num
+numberIn w = pick (leb (length w) 2) (digitsIn 10 w) (pick (eqb (getD w 0 0) 48) (pick (eqb (getD w 1 0) 120) (digitsIn 16 (drop 2 w)) (digitsIn 10 w)) (digitsIn 10 w))

@@ -17,14 +17,14 @@ unfoldable pub glyphOf : ℕ → ℕ
 glyphOf d = cond (ltb d 10) (48 + d) (55 + d)
 
 -- the last k digits of n in base
-unfoldable pub digitsOf : ℕ → ℕ → ℕ → List ℕ
-digitsOf base zero n = []
-digitsOf base (suc k) n = digitsOf base k (n / base) ++ (glyphOf (n % base) ∷ [])
+unfoldable pub digitsText : ℕ → ℕ → ℕ → List ℕ
+digitsText base zero n = []
+digitsText base (suc k) n = digitsText base k (n / base) ++ (glyphOf (n % base) ∷ [])
 
 -- n in decimal, of at most k digits, with no zero in front
 unfoldable pub decimalIn : ℕ → ℕ → List ℕ
 decimalIn zero n = []
 decimalIn (suc k) n = cond (ltb n 10) (glyphOf n ∷ []) (decimalIn k (n / 10) ++ (glyphOf (n % 10) ∷ []))
 
-abbrev pub decimalOf : ℕ → List ℕ
-decimalOf n = decimalIn 20 n
+abbrev pub decimalText : ℕ → List ℕ
+decimalText n = decimalIn 20 n

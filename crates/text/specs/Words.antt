@@ -7,9 +7,9 @@ use lib.Dec.{eqb}
 use Rattle.bytes.specs.Bytes.{indexOf}
 
 -- how many words s has: one more than its spaces
-unfoldable pub wordsIn : List ℕ → ℕ
-wordsIn [] = 1
-wordsIn (b ∷ s) = cond (eqb b 32) (wordsIn s + 1) (wordsIn s)
+unfoldable pub wordCount : List ℕ → ℕ
+wordCount [] = 1
+wordCount (b ∷ s) = cond (eqb b 32) (wordCount s + 1) (wordCount s)
 
 -- what stands before the first b of s once k of them are passed; nothing where s has not so many
 unfoldable pub partAt : ℕ → List ℕ → ℕ → List ℕ

@@ -15,7 +15,7 @@ pub use put::put_decimal;
 pub use put::put_hex;
 pub use put::put_places;
 pub use words::part;
-pub use words::same;
+pub use words::same_bytes;
 pub use words::which;
 pub use words::word;
 pub use words::word_count;

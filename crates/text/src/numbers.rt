@@ -2,7 +2,7 @@
 // base, or of 2^64 or more, is no number.
 ghost use mathlib.Core.Path.{_≡_};
 ghost use Prim.Native.Nat.{_≤_, _<_};
-ghost use Rattle.text.specs.Numbers.{digitOf, inBase, numberOf};
+ghost use Rattle.text.specs.Numbers.{digitOf, digitsIn, numberIn};
 
 pub enum Num {
     Value(u64),
@@ -11,7 +11,7 @@ pub enum Num {
 
 // A decimal number, or a hexadecimal one after 0x.
 pub fn number(w: &[u8]) -> Num
-    ensures { λ r. ⌜ r ≡ numberOf (now (w .entry)) ⌝ }
+    ensures { λ r. ⌜ r ≡ numberIn (now (w .entry)) ⌝ }
 {
     if w.len() <= 2 {
         return digits(w, 10);
@@ -27,14 +27,14 @@ pub fn number(w: &[u8]) -> Num
 
 // A hexadecimal number, with no 0x; digits of either case.
 pub fn hex_word(w: &[u8]) -> Num
-    ensures { λ r. ⌜ r ≡ inBase 16 (now (w .entry)) ⌝ }
+    ensures { λ r. ⌜ r ≡ digitsIn 16 (now (w .entry)) ⌝ }
 {
     digits(w, 16)
 }
 
 // A decimal number.
 pub fn decimal_word(w: &[u8]) -> Num
-    ensures { λ r. ⌜ r ≡ inBase 10 (now (w .entry)) ⌝ }
+    ensures { λ r. ⌜ r ≡ digitsIn 10 (now (w .entry)) ⌝ }
 {
     digits(w, 10)
 }
@@ -42,7 +42,7 @@ pub fn decimal_word(w: &[u8]) -> Num
 // The number that the digits of w are in base.
 fn digits(w: &[u8], base: u64) -> Num
     requires { ⌜ (0 < base) × (base ≤ 16) ⌝ }
-    ensures { λ r. ⌜ r ≡ inBase base (now (w .entry)) ⌝ }
+    ensures { λ r. ⌜ r ≡ digitsIn base (now (w .entry)) ⌝ }
 {
     if w.len() == 0 {
         return Num::Bad;

@@ -3,7 +3,7 @@
 ghost use mathlib.Core.Path.{_≡_};
 ghost use mathlib.Core.List.{[], _∷_};
 ghost use Prim.Native.Nat.{_≤_, _<_};
-ghost use Rattle.text.specs.Put.{Put, glyphOf, digitsOf, decimalIn, decimalOf};
+ghost use Rattle.text.specs.Put.{Put, glyphOf, digitsText, decimalIn, decimalText};
 
 // One byte.
 pub fn put_byte(out: &mut [u8], at: usize, b: u8) -> usize
@@ -31,34 +31,34 @@ pub fn put_bytes(out: &mut [u8], at: usize, s: &[u8]) -> usize
 
 // The last k hexadecimal digits of n, in capitals.
 pub fn put_hex(out: &mut [u8], at: usize, n: u64, k: usize) -> usize
-    ensures { λ r. ⌜ Put (now (out .entry)) at (digitsOf 16 k n) (now (out .exit)) r ⌝ }
+    ensures { λ r. ⌜ Put (now (out .entry)) at (digitsText 16 k n) (now (out .exit)) r ⌝ }
 {
-    spell(out, at, n, 16, k)
+    put_digits(out, at, n, 16, k)
 }
 
 // The last k decimal digits of n.
 pub fn put_places(out: &mut [u8], at: usize, n: u64, k: usize) -> usize
-    ensures { λ r. ⌜ Put (now (out .entry)) at (digitsOf 10 k n) (now (out .exit)) r ⌝ }
+    ensures { λ r. ⌜ Put (now (out .entry)) at (digitsText 10 k n) (now (out .exit)) r ⌝ }
 {
-    spell(out, at, n, 10, k)
+    put_digits(out, at, n, 10, k)
 }
 
 // n in decimal, with no zero in front.
 pub fn put_decimal(out: &mut [u8], at: usize, n: u64) -> usize
-    ensures { λ r. ⌜ Put (now (out .entry)) at (decimalOf n) (now (out .exit)) r ⌝ }
+    ensures { λ r. ⌜ Put (now (out .entry)) at (decimalText n) (now (out .exit)) r ⌝ }
 {
     decimal_in(out, at, n, 20)
 }
 
 // The last k digits of n in base.
-fn spell(out: &mut [u8], at: usize, n: u64, base: u64, k: usize) -> usize
+fn put_digits(out: &mut [u8], at: usize, n: u64, base: u64, k: usize) -> usize
     requires { ⌜ (0 < base) × (base ≤ 16) ⌝ }
-    ensures { λ r. ⌜ Put (now (out .entry)) at (digitsOf base k n) (now (out .exit)) r ⌝ }
+    ensures { λ r. ⌜ Put (now (out .entry)) at (digitsText base k n) (now (out .exit)) r ⌝ }
 {
     if k == 0 {
         return at;
     }
-    let p = spell(out, at, n / base, base, k - 1);
+    let p = put_digits(out, at, n / base, base, k - 1);
     put_byte(out, p, glyph(n % base))
 }
 

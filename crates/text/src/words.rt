@@ -2,11 +2,11 @@
 // spaces, and two spaces together part an empty word.
 ghost use mathlib.Core.Path.{_≡_};
 ghost use Prim.Native.Nat.{_≤_};
-ghost use Rattle.text.specs.Words.{wordsIn, partAt, wordAt, pastWord, sameBytes, whichOf};
+ghost use Rattle.text.specs.Words.{wordCount, partAt, wordAt, pastWord, sameBytes, whichOf};
 
 // How many words s has.
 pub fn word_count(s: &[u8]) -> usize
-    ensures { λ r. ⌜ r ≡ wordsIn (now (s .entry)) ⌝ }
+    ensures { λ r. ⌜ r ≡ wordCount (now (s .entry)) ⌝ }
 {
     let mut n = 1;
     let mut i = 0;
@@ -52,7 +52,7 @@ fn past_word(s: &[u8]) -> &[u8]
 }
 
 // Whether two words are the same bytes.
-pub fn same(a: &[u8], b: &[u8]) -> bool
+pub fn same_bytes(a: &[u8], b: &[u8]) -> bool
     ensures { λ r. ⌜ r ≡ sameBytes (now (a .entry)) (now (b .entry)) ⌝ }
 {
     if a.len() != b.len() {
@@ -75,7 +75,7 @@ pub fn which(names: &[u8], n: usize, w: &[u8]) -> usize
     if n == 0 {
         return 0;
     }
-    if same(w, word(names, 0)) {
+    if same_bytes(w, word(names, 0)) {
         return 0;
     }
     1 + which(past_word(names), n - 1, w)

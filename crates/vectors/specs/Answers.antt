@@ -8,14 +8,14 @@ use lib.ListN.{getD}
 use mir.Syntax.{w8}
 use mir.Val.{toZ}
 use Rattle.codec.specs.Faults as faults
-use Rattle.codec.specs.Ids.{joined, split}
-use Rattle.codec.specs.Kinds.{infoOf, kindNumber}
+use Rattle.codec.specs.Ids as ids
+use Rattle.codec.specs.Kinds as kinds
 use Rattle.codec.specs.Models as models
-use Rattle.codec.specs.Modes.{modeRead}
+use Rattle.codec.specs.Modes.{controlModeFromRaw}
 use Rattle.codec.specs.Motion as motion
-use Rattle.codec.specs.Replies.{protocolChecked, setProtocol, versionRequest, isVersion, versionAnswer, pingAnswer}
+use Rattle.codec.specs.Replies as replies
 use Rattle.codec.specs.Status as status
-use Rattle.codec.specs.Values.{readPayload, writePayload, encodedValue, readValue, kindIn, rawOf}
+use Rattle.codec.specs.Values as values
 use Rattle.codec.specs.declared.motion.MitCommand.{MitCommand}
 use Rattle.codec.specs.declared.status.StatusFrame.{StatusFrame}
 use Rattle.codec_abi.specs.Packing.{payloadOf, packed, refusalIn, flag}
@@ -33,72 +33,72 @@ abbrev pub shown : List ℕ → ℕ
 shown bytes = swapped (packed bytes)
 
 abbrev pub buildExtId : List ℕ → Reply
-buildExtId v = replied 0 (joined (word v 0) (half v 1) (byte v 2)) 0 0
+buildExtId v = replied 0 (ids.buildExtId (word v 0) (half v 1) (byte v 2)) 0 0
 
 abbrev pub threeOf : ℕ → Reply
 threeOf parts = replied 0 (parts / 2 ^ 32) (parts / 2 ^ 16) parts
 
 abbrev pub extIdParts : List ℕ → Reply
-extIdParts v = threeOf (abi.partsNumber (split (word v 0)))
+extIdParts v = threeOf (abi.partsNumber (ids.extIdParts (word v 0)))
 
 abbrev pub parameterInfo : List ℕ → Reply
-parameterInfo v = replied 0 (abi.infoNumber (infoOf (half v 0))) 0 0
+parameterInfo v = replied 0 (abi.infoNumber (kinds.parameterInfo (half v 0))) 0 0
 
 -- a mode's number, or 256 + the refusal's
 abbrev pub modeOf : ℕ → Reply
 modeOf mode = cond (ltb mode 256) (replied 0 mode 0 0) (replied (mode - 256) 0 0 0)
 
 abbrev pub fromRaw : List ℕ → Reply
-fromRaw v = modeOf (abi.modeAnswer (modeRead (toZ w8 (byte v 0))))
+fromRaw v = modeOf (abi.modeAnswer (controlModeFromRaw (toZ w8 (byte v 0))))
 
 abbrev pub validateProtocolCmd : List ℕ → Reply
-validateProtocolCmd v = replied (refusalIn (protocolChecked (byte v 0))) 0 0 0
+validateProtocolCmd v = replied (refusalIn (replies.validateProtocolCmd (byte v 0))) 0 0 0
 
 abbrev pub encodeSetProtocol : List ℕ → Reply
-encodeSetProtocol v = replied (refusalIn (setProtocol (byte v 0) .said)) (shown (setProtocol (byte v 0) .payload)) 0 0
+encodeSetProtocol v = replied (refusalIn (replies.encodeSetProtocol (byte v 0) .said)) (shown (replies.encodeSetProtocol (byte v 0) .payload)) 0 0
 
 abbrev pub encodeParameterRead : List ℕ → Reply
-encodeParameterRead v = replied 0 (shown (readPayload (half v 0))) 0 0
+encodeParameterRead v = replied 0 (shown (values.encodeParameterRead (half v 0))) 0 0
 
 abbrev pub encodeParameterWrite : List ℕ → Reply
-encodeParameterWrite v = replied 0 (shown (writePayload (half v 0) (word v 1))) 0 0
+encodeParameterWrite v = replied 0 (shown (values.encodeParameterWrite (half v 0) (word v 1))) 0 0
 
 abbrev pub encodeParameterValue : List ℕ → Reply
 encodeParameterValue v =
-    replied (abi.encodedRefusal (encodedValue (half v 0) (abi.typedValue (byte v 1) (word v 2))))
-    (abi.encodedRaw (encodedValue (half v 0) (abi.typedValue (byte v 1) (word v 2))))
+    replied (abi.encodedRefusal (values.encodeParameterValue (half v 0) (abi.typedValue (byte v 1) (word v 2))))
+    (abi.encodedRaw (values.encodeParameterValue (half v 0) (abi.typedValue (byte v 1) (word v 2))))
     0
     0
 
 abbrev pub decodeReadParameterValue : List ℕ → Reply
 decodeReadParameterValue v =
-    replied 0 (kindNumber (kindIn (readValue (half v 0) (payload v 1)))) (rawOf (readValue (half v 0) (payload v 1))) 0
+    replied 0 (kinds.kindNumber (values.kindIn (values.decodeReadParameterValue (half v 0) (payload v 1)))) (values.rawOf (values.decodeReadParameterValue (half v 0) (payload v 1))) 0
 
 abbrev pub reportOf : ℕ → ℕ → Reply
 reportOf report flags = replied 0 report (report / 2 ^ 32) flags
 
 abbrev pub decodeFaultReport : List ℕ → Reply
-decodeFaultReport v = reportOf (abi.reportNumber (faults.faultReport (payload v 0))) (abi.reportBits (faults.faultReport (payload v 0)))
+decodeFaultReport v = reportOf (abi.reportNumber (faults.decodeFaultReport (payload v 0))) (abi.reportBits (faults.decodeFaultReport (payload v 0)))
 
 abbrev pub pingOf : ℕ → ℕ → Reply
 pingOf said bytes = replied (said / 2 ^ 16) (said / 2 ^ 8) said (swapped bytes)
 
 abbrev pub decodePingReply : List ℕ → Reply
 decodePingReply v =
-    pingOf (abi.pingNumber (pingAnswer (word v 0) (payload v 1))) (packed (pingAnswer (word v 0) (payload v 1) .reply .payload))
+    pingOf (abi.pingNumber (replies.decodePingReply (word v 0) (payload v 1))) (packed (replies.decodePingReply (word v 0) (payload v 1) .reply .payload))
 
 abbrev pub encodeVersionRequest : Reply
-encodeVersionRequest = replied 0 (shown versionRequest) 0 0
+encodeVersionRequest = replied 0 (shown replies.encodeVersionRequest) 0 0
 
 abbrev pub isVersionReply : List ℕ → Reply
-isVersionReply v = replied 0 (flag (isVersion (word v 0) (payload v 1)) 1) 0 0
+isVersionReply v = replied 0 (flag (replies.isVersionReply (word v 0) (payload v 1)) 1) 0 0
 
 abbrev pub versionOf : ℕ → ℕ → Reply
 versionOf said version = replied (said / 2 ^ 16) said (swapped4 version) 0
 
 abbrev pub decodeVersionReply : List ℕ → Reply
 decodeVersionReply v =
-    versionOf (abi.versionNumber (versionAnswer (word v 0) (payload v 1))) (abi.versionBytes (versionAnswer (word v 0) (payload v 1)))
+    versionOf (abi.versionNumber (replies.decodeVersionReply (word v 0) (payload v 1))) (abi.versionBytes (replies.decodeVersionReply (word v 0) (payload v 1)))
 
 -- ---- motion and status values
 
@@ -141,7 +141,7 @@ targets v = floatAt v 0 ∷ floatAt v 1 ∷ floatAt v 2 ∷ floatAt v 3 ∷ floa
 
 abbrev pub commandOf : List Float → List Float → MitCommand
 commandOf x m =
-    motion.mitCommand (nth x 0) (nth x 1) (nth x 2) (nth x 3) (nth x 4) (abi.allLimits (nth m 0) (nth m 1) (nth m 2) (nth m 3) (nth m 4))
+    motion.encodeMitCommand (nth x 0) (nth x 1) (nth x 2) (nth x 3) (nth x 4) (abi.allLimits (nth m 0) (nth m 1) (nth m 2) (nth m 3) (nth m 4))
 
 abbrev pub commandReply : ℕ → MitCommand → Reply
 commandReply n command = replied n (command .«extra_data») (shown (command .payload)) 0
@@ -150,7 +150,7 @@ abbrev pub encodeMitCommand : List ℕ → List ℕ → Reply
 encodeMitCommand v name = commandReply (limitsNamed name .refusal) (commandOf (targets v) (limitsNamed name .limits))
 
 abbrev pub frameOf : List ℕ → List Float → StatusFrame
-frameOf v m = status.statusFrame (half v 0) (payload v 1) (abi.motionLimits (nth m 0) (nth m 1) (nth m 2))
+frameOf v m = status.decodeStatusFrame (half v 0) (payload v 1) (abi.motionLimits (nth m 0) (nth m 1) (nth m 2))
 
 -- mode, device and flags, then the four values
 abbrev pub statusReply : ℕ → ℕ → List Float → Reply

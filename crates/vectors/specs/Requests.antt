@@ -8,7 +8,7 @@ use lib.ListN.{length, getD}
 use Rattle.text.specs.declared.numbers.Num.{Num}
 use Rattle.text.specs.declared.numbers.Num.the-variants.{Value, Bad}
 use Rattle.text.specs.Words.{wordAt}
-use Rattle.text.specs.Numbers.{pick, inBase}
+use Rattle.text.specs.Numbers.{pick, digitsIn}
 
 -- how many digits a letter of a shape asks for: 2, 4, 8, and 16 for any other
 abbrev pub widthOf : ℕ → ℕ
@@ -16,7 +16,7 @@ widthOf letter = cond (eqb letter 0x32) 2 (cond (eqb letter 0x34) 4 (cond (eqb l
 
 -- the argument that a word is for a letter: for N a name, which counts as 0; else a number of exactly so many digits
 abbrev pub argumentOf : List ℕ → ℕ → Num
-argumentOf w letter = pick (eqb letter 0x4E) (Value 0) (pick (eqb (length w) (widthOf letter)) (inBase 16 w) Bad)
+argumentOf w letter = pick (eqb letter 0x4E) (Value 0) (pick (eqb (length w) (widthOf letter)) (digitsIn 16 w) Bad)
 
 -- v holds the argument of each letter: word k + 1 of the line for letter k
 abbrev pub Read : List ℕ → List ℕ → List ℕ → ℕ → Type 0

@@ -4,13 +4,13 @@ use mathlib.Core.Bool.{cond}
 use mathlib.Core.List.{List, [], _∷_, _++_}
 use lib.Dec.{eqb, ltb}
 use lib.ListN.{length, getD}
-use Rattle.text.specs.Put.{digitsOf, decimalOf}
+use Rattle.text.specs.Put.{digitsText, decimalText}
 use Rattle.vectors.specs.declared.fields.Reply.{Reply}
 use Rattle.vectors.specs.Requests.{widthOf}
 
 -- for K "ok", else the last digits, as many as the letter says
 abbrev pub numberText : ℕ → ℕ → List ℕ
-numberText n letter = cond (eqb letter 0x4B) (0x6F ∷ 0x6B ∷ []) (digitsOf 16 (widthOf letter) n)
+numberText n letter = cond (eqb letter 0x4B) (0x6F ∷ 0x6B ∷ []) (digitsText 16 (widthOf letter) n)
 
 -- the number at place i, after a space but for the first
 abbrev pub fieldText : ℕ → ℕ → ℕ → List ℕ
@@ -27,7 +27,7 @@ fieldsText v shape = cond (ltb 7 (length shape)) [] (fieldsUpto v shape (length 
 
 -- "refused " and a number
 abbrev pub refusedText : ℕ → List ℕ
-refusedText n = (0x72 ∷ 0x65 ∷ 0x66 ∷ 0x75 ∷ 0x73 ∷ 0x65 ∷ 0x64 ∷ 0x20 ∷ []) ++ decimalOf n
+refusedText n = (0x72 ∷ 0x65 ∷ 0x66 ∷ 0x75 ∷ 0x73 ∷ 0x65 ∷ 0x64 ∷ 0x20 ∷ []) ++ decimalText n
 
 abbrev pub replyText : Reply → List ℕ → List ℕ
 replyText reply shape = cond (eqb (reply .refusal) 0) (fieldsText (reply .v) shape) (refusedText (reply .refusal))

@@ -11,7 +11,7 @@ ghost use Rattle.vectors.specs.Numbers.{floatOf, bitsOf};
 ghost use Rattle.vectors.specs.Answers as answer;
 
 // A float's bits.
-fn word_of(x: f32) -> u64
+fn bits_of(x: f32) -> u64
     ensures { λ r. ⌜ r ≡ bitsOf x ⌝ }
 {
     values::codec_word_of(x) as u64
@@ -42,14 +42,14 @@ pub fn status_value(v: [u64; 6]) -> Reply
     ensures { λ r. ⌜ r ≡ answer.statusValue v ⌝ }
 {
     let x = values::codec_status_value(low16(v[0]), value(v[1]));
-    replied(0, word_of(x), 0, 0)
+    replied(0, bits_of(x), 0, 0)
 }
 
 pub fn temperature(v: [u64; 6]) -> Reply
     ensures { λ r. ⌜ r ≡ answer.temperature v ⌝ }
 {
     let x = values::codec_temperature(low16(v[0]));
-    replied(0, word_of(x), 0, 0)
+    replied(0, bits_of(x), 0, 0)
 }
 
 // A model's limits and the refusal of its name.
@@ -77,11 +77,11 @@ pub fn model_limits(name: &[u8]) -> Reply
     Reply {
         refusal: found.refusal,
         v: [
-            word_of(m[0]),
-            word_of(m[1]),
-            word_of(m[2]),
-            word_of(m[3]),
-            word_of(m[4]),
+            bits_of(m[0]),
+            bits_of(m[1]),
+            bits_of(m[2]),
+            bits_of(m[3]),
+            bits_of(m[4]),
             0,
             0,
         ],
@@ -151,10 +151,10 @@ fn status(refusal: u64, said: u64, x: [f32; 4]) -> Reply
             said,
             said / 0x100,
             said / 0x1_0000,
-            word_of(x[0]),
-            word_of(x[1]),
-            word_of(x[2]),
-            word_of(x[3]),
+            bits_of(x[0]),
+            bits_of(x[1]),
+            bits_of(x[2]),
+            bits_of(x[3]),
         ],
     }
 }

@@ -368,105 +368,113 @@ module _ (Z P O K X D L F Q C₀ E₀ : Held) (R : RattleType) (νl νr νc νe 
                 (λ ev. let k = ev .0 in let k-is = Vk .call-is k (subst (λ (e : E₀ .Denot). Is (row E) e (E .val e ∷ [])) (ev .1) (Lk .event-is l u is)) in
                 rewrite ! 38 (λ (us : List Val). ‵ (fat fullShare (E .ty) l7 0 (only us))) (ap (λ (v : Val). v ∷ []) (ev .2)) refl $
                 first ! $ switches ! (load ! (from ! (vrt ! refl (fld ! refl (stop !)))) (look-tag ! 38 (whole !))) (
-                (λ _.
-                -- a call
-                assigns ! (of-opd ! (load ! (from ! (vrt ! refl (fld ! refl (stop !)))) (look-in ! 38 (in-variant ! 0 0 refl refl (whole !))))) (from ! (stop !)) (init ! 36 refl (Ck .fits k _ k-is)) $
-                either-way (Vk .call k)
-                (λ lk. let id = lk .0 in let id-is = Vk .key-is id (subst (λ (x : C₀ .Denot). Is (row C) x (C .val x ∷ [])) (lk .1) k-is) in
-                rewrite ! 36 (λ (us : List Val). ‵ (fat fullShare (C .ty) l8 0 (only us))) (ap (λ (v : Val). v ∷ []) (lk .2)) refl $
-                switches ! (load ! (from ! (vrt ! refl (fld ! refl (stop !)))) (look-tag ! 36 (whole !))) (
-                (λ _.
-                -- a look
-                assigns ! (of-opd ! (load ! (from ! (vrt ! refl (fld ! refl (stop !)))) (look-in ! 36 (in-variant ! 4 0 refl refl (whole !))))) (from ! (stop !)) (init ! 34 refl (Kk .fits id _ id-is)) $
-                assigns ! (addr ! (from ! (hop ! (look ! 50 refl) (stop !)))) (from ! (stop !)) (init ! 22 refl (tt, tt)) $
-                -- at the borrow's own lifetime, share and name
-                move ! (2 ∷ 3 ∷ []) $ use2 W (raw (CLook .pre (to-look id))) (goes-look id id-is) $
-                calls-at ! fm CLook known-look (to-look id) (and-then ! (load ! (from ! (stop !)) (look ! 21 refl)) (and-then ! (load ! (from ! (stop !)) (look ! 33 refl)) (no-more !))) (λ v.
-                use1 W (later (some (λ (y : X .Denot). (T0 ⊛ ‵ (X .own y (v ∷ []))) ⊛ raw (ensured 𝓤 H A look-ended look-clauses (κ₀, tt) (look-args id) tt y)))) (id⊢ 𝓤 _) $ await ! tt $ pick ! (λ y.
-                split ! $ move ! (1 ∷ []) $ use1 W (some (λ (z : Z .Denot × (U × U)). ‵ (lasts look-ended (κ₀, tt) (look-args id) z) ⊛ raw (fact 𝓤 (Looked h id y (z .0))))) (id⊢ 𝓤 _) $ pick ! (λ z.
-                split ! $ move ! (1 ∷ []) $ heard ! (Looked h id y (z .0)) (λ y-said. fsplit ! $ move ! (1 ∷ []) $ drop ! $ move ! (1 ∷ []) $ split ! $ move ! (1 ∷ []) $
-                -- [the answer; T0; the station's last value; T12; IO; locals]
-                peeks ! (still X) (Is (still X)) (shows 𝓤 H A (still X)) y (v ∷ []) (λ y-is. land ! (from ! (stop !)) (init ! 33 refl (Xk .fits y v y-is)) $
-                assigns ! (addr ! (from ! (fld ! refl (hop ! (look-in ! 45 (sub ! 0 refl (whole !))) (stop !))))) (from ! (stop !)) (init ! 21 refl (tt, tt)) $
-                assigns ! (agg ! (and-then ! (load ! (from ! (stop !)) (look ! 21 refl)) (and-then ! (load ! (from ! (fld ! refl (stop !))) (look-in ! 45 (sub ! 1 refl (whole !)))) (no-more !)))) (from ! (stop !)) (init ! 19 refl (tt, (tt, (record { fits = room .0 }, tt)))) $
-                move ! (3 ∷ 0 ∷ 4 ∷ []) $ use3 W (raw (CShow .pre (to-show y v))) (goes-show y v) $
-                calls-at ! fm CShow known-show (to-show y v) (and-then ! (load ! (from ! (stop !)) (look ! 31 refl)) (and-then ! (load ! (from ! (stop !)) (look ! 47 refl)) (and-then ! (load ! (from ! (stop !)) (look ! 45 refl)) (and-then ! (load ! (from ! (stop !)) (look ! 17 refl)) (and-then ! (load ! (from ! (stop !)) (look ! 41 refl)) (no-more !)))))) (λ w.
-                use1 W (later (some (λ (r : D .Denot). (T12 ⊛ ‵ (D .own r (w ∷ []))) ⊛ raw (ensured 𝓤 H A show-ended show-clauses (κ₁, (κ₂, tt)) (show-args y) tt r)))) (id⊢ 𝓤 _) $ await ! tt $ pick ! (λ r.
-                split ! $ move ! (1 ∷ []) $ use1 W (some (λ (ws : U × (U × (U × (List ℕ × (U × U))))). ‵ (lasts show-ended (κ₁, (κ₂, tt)) (show-args y) ws) ⊛ raw (fact 𝓤 (Shows y (s .now) n ys c r (ws .1 .1 .1 .0))))) (id⊢ 𝓤 _) $ pick ! (λ ws.
-                split ! $ move ! (1 ∷ []) $ heard ! (Shows y (s .now) n ys c r (ws .1 .1 .1 .0)) (λ r-said. fsplit ! $ drop ! $ fsplit ! $ drop ! $ fsplit ! $ drop ! $ fsplit ! $ fsplit ! $ move ! (1 ∷ []) $ feqL ! (λ len.
-                move ! (1 ∷ []) $ drop ! $ move ! (1 ∷ []) $ split ! $ move ! (1 ∷ []) $
-                -- [the result; T12; the last list; T0; the station's last value; locals]
-                peeks ! (still D) (Is (still D)) (shows 𝓤 H A (still D)) r (w ∷ []) (λ r-is. land ! (from ! (stop !)) (init ! 53 refl (Dk .fits r w r-is)) $
-                returns-within ! Post refl (look ! 53 refl) $ frees-behind 𝓤 H A W 5 (bare (bare (bare (bare (bare (bare (bare (has (has (has (bare (bare (bare (bare (has (has (has (has (has (has (has (has (has (has (has none-left))))))))))))))))))))))))) refl $
-                by ! (exits r w (z .0) (ws .1 .1 .1 .0) (holds-looks h (s .now) n ys c l k id y (z .0) r (ws .1 .1 .1 .0) l-said (ev .1) (lk .1) y-said r-said) len))))))))))))),
-                ((λ t. absurd (miss rest 4 tt t)), (λ n. absurd (n .0 .1 refl)))))
-                (λ nl.
-                rewrite ! 36 (λ (us : List Val). ‵ (fat fullShare (C .ty) l8 0 (only us))) (ap (λ (v : Val). v ∷ []) (nl .2)) refl $
-                switches ! (load ! (from ! (vrt ! refl (fld ! refl (stop !)))) (look-tag ! 36 (whole !))) (
-                (λ t. absurd (nl .4 t)),
-                ((λ _.
-                -- any other call
-                rewrite ! 36 (λ (us : List Val). ‵ (fat fullShare (C .ty) l8 0 (only us))) (ap (λ (v : Val). v ∷ []) (sym (nl .2))) refl $
-                assigns ! (of-opd ! (load ! (from ! (fld ! refl (stop !))) (look-in ! 40 (sub ! 1 refl (whole !))))) (from ! (stop !)) (init ! 30 refl (Fk .fits (framed l) _ (Lk .frame-is l u is))) $
-                assigns ! (addr ! (from ! (hop ! (look ! 50 refl) (stop !)))) (from ! (stop !)) (init ! 16 refl (tt, tt)) $
-                assigns ! (agg ! (and-then ! (load ! (from ! (stop !)) (look ! 36 refl)) (and-then ! (load ! (from ! (stop !)) (look ! 30 refl)) (no-more !)))) (from ! (stop !)) (init ! 14 refl (Pk .fits (asks k (framed l)) _ (builds k (framed l) k-is (Lk .frame-is l u is)))) $
-                -- at the borrow's own lifetime, share and name
-                move ! (2 ∷ 3 ∷ []) $ use2 W (raw (CCall .pre (to-call k (framed l)))) (goes-call k (framed l) (builds k (framed l) k-is (Lk .frame-is l u is))) $
-                calls-at ! fm CCall known-call (to-call k (framed l)) (and-then ! (load ! (from ! (stop !)) (look ! 15 refl)) (and-then ! (load ! (from ! (stop !)) (look ! 13 refl)) (no-more !))) (λ v.
-                use1 W (later (some (λ (y : O .Denot). (T0 ⊛ ‵ (O .own y (v ∷ []))) ⊛ raw (ensured 𝓤 H A call-ended call-clauses (κ₀, tt) (call-args k (framed l)) tt y)))) (id⊢ 𝓤 _) $ await ! tt $ pick ! (λ y.
-                split ! $ move ! (1 ∷ []) $ use1 W (some (λ (z : Z .Denot × (U × U)). ‵ (lasts call-ended (κ₀, tt) (call-args k (framed l)) z) ⊛ raw (fact 𝓤 (Called h (asks k (framed l)) y (z .0))))) (id⊢ 𝓤 _) $ pick ! (λ z.
-                split ! $ move ! (1 ∷ []) $ heard ! (Called h (asks k (framed l)) y (z .0)) (λ y-said. fsplit ! $ move ! (1 ∷ []) $ drop ! $ move ! (1 ∷ []) $ split ! $ move ! (1 ∷ []) $
-                -- [the answer; T0; the station's last value; T12; IO; locals]
-                peeks ! (still O) (Is (still O)) (shows 𝓤 H A (still O)) y (v ∷ []) (λ y-is. land ! (from ! (stop !)) (init ! 29 refl (Ok .fits y v y-is)) $
-                assigns ! (addr ! (from ! (fld ! refl (hop ! (look-in ! 45 (sub ! 0 refl (whole !))) (stop !))))) (from ! (stop !)) (init ! 13 refl (tt, tt)) $
-                assigns ! (agg ! (and-then ! (load ! (from ! (stop !)) (look ! 13 refl)) (and-then ! (load ! (from ! (fld ! refl (stop !))) (look-in ! 45 (sub ! 1 refl (whole !)))) (no-more !)))) (from ! (stop !)) (init ! 11 refl (tt, (tt, (record { fits = room .0 }, tt)))) $
-                move ! (3 ∷ 0 ∷ 4 ∷ []) $ use3 W (raw (CReply .pre (to-reply y k v))) (goes-reply y k v k-is) $
-                calls-at ! fm CReply known-reply (to-reply y k v) (and-then ! (load ! (from ! (stop !)) (look ! 27 refl)) (and-then ! (load ! (from ! (stop !)) (look ! 35 refl)) (and-then ! (load ! (from ! (stop !)) (look ! 47 refl)) (and-then ! (load ! (from ! (stop !)) (look ! 45 refl)) (and-then ! (load ! (from ! (stop !)) (look ! 9 refl)) (and-then ! (load ! (from ! (stop !)) (look ! 41 refl)) (no-more !))))))) (λ w.
-                use1 W (later (some (λ (r : D .Denot). (T12 ⊛ ‵ (D .own r (w ∷ []))) ⊛ raw (ensured 𝓤 H A reply-ended reply-clauses (κ₁, (κ₂, tt)) (reply-args y k) tt r)))) (id⊢ 𝓤 _) $ await ! tt $ pick ! (λ r.
-                split ! $ move ! (1 ∷ []) $ use1 W (some (λ (ws : U × (U × (U × (U × (List ℕ × (U × U)))))). ‵ (lasts reply-ended (κ₁, (κ₂, tt)) (reply-args y k) ws) ⊛ raw (fact 𝓤 (Replies y k (s .now) n ys c r (ws .1 .1 .1 .1 .0))))) (id⊢ 𝓤 _) $ pick ! (λ ws.
-                split ! $ move ! (1 ∷ []) $ heard ! (Replies y k (s .now) n ys c r (ws .1 .1 .1 .1 .0)) (λ r-said. fsplit ! $ drop ! $ fsplit ! $ drop ! $ fsplit ! $ drop ! $ fsplit ! $ drop ! $ fsplit ! $ fsplit ! $ move ! (1 ∷ []) $ feqL ! (λ len.
-                move ! (1 ∷ []) $ drop ! $ move ! (1 ∷ []) $ split ! $ move ! (1 ∷ []) $
-                -- [the result; T12; the last list; T0; the station's last value; locals]
-                peeks ! (still D) (Is (still D)) (shows 𝓤 H A (still D)) r (w ∷ []) (λ r-is. land ! (from ! (stop !)) (init ! 53 refl (Dk .fits r w r-is)) $
-                returns-within ! Post refl (look ! 53 refl) $ frees-behind 𝓤 H A W 5 (bare (bare (bare (has (has (has (has (bare (bare (bare (bare (bare (has (has (bare (bare (has (has (has (has (has (has (has (has (has none-left))))))))))))))))))))))))) refl $
-                by ! (exits r w (z .0) (ws .1 .1 .1 .1 .0) (holds-asks h (s .now) n ys c l k y (z .0) r (ws .1 .1 .1 .1 .0) l-said (ev .1) (nl .5) y-said r-said) len))))))))))))),
-                (λ n. absurd (n .1 (nl .3))))))),
-                ((λ t. absurd (miss (1 ∷ []) 0 tt t)), (λ n. absurd (n .0 .1 refl)))))
+                  (λ _.
+                      -- a call
+                      assigns ! (of-opd ! (load ! (from ! (vrt ! refl (fld ! refl (stop !)))) (look-in ! 38 (in-variant ! 0 0 refl refl (whole !))))) (from ! (stop !)) (init ! 36 refl (Ck .fits k _ k-is)) $
+                      either-way (Vk .call k)
+                      (λ lk. let id = lk .0 in let id-is = Vk .key-is id (subst (λ (x : C₀ .Denot). Is (row C) x (C .val x ∷ [])) (lk .1) k-is) in
+                      rewrite ! 36 (λ (us : List Val). ‵ (fat fullShare (C .ty) l8 0 (only us))) (ap (λ (v : Val). v ∷ []) (lk .2)) refl $
+                      switches ! (load ! (from ! (vrt ! refl (fld ! refl (stop !)))) (look-tag ! 36 (whole !))) (
+                        (λ _.
+                            -- a look
+                            assigns ! (of-opd ! (load ! (from ! (vrt ! refl (fld ! refl (stop !)))) (look-in ! 36 (in-variant ! 4 0 refl refl (whole !))))) (from ! (stop !)) (init ! 34 refl (Kk .fits id _ id-is)) $
+                            assigns ! (addr ! (from ! (hop ! (look ! 50 refl) (stop !)))) (from ! (stop !)) (init ! 22 refl (tt, tt)) $
+                            -- at the borrow's own lifetime, share and name
+                            move ! (2 ∷ 3 ∷ []) $ use2 W (raw (CLook .pre (to-look id))) (goes-look id id-is) $
+                            calls-at ! fm CLook known-look (to-look id) (and-then ! (load ! (from ! (stop !)) (look ! 21 refl)) (and-then ! (load ! (from ! (stop !)) (look ! 33 refl)) (no-more !))) (λ v.
+                            use1 W (later (some (λ (y : X .Denot). (T0 ⊛ ‵ (X .own y (v ∷ []))) ⊛ raw (ensured 𝓤 H A look-ended look-clauses (κ₀, tt) (look-args id) tt y)))) (id⊢ 𝓤 _) $ await ! tt $ pick ! (λ y.
+                            split ! $ move ! (1 ∷ []) $ use1 W (some (λ (z : Z .Denot × (U × U)). ‵ (lasts look-ended (κ₀, tt) (look-args id) z) ⊛ raw (fact 𝓤 (Looked h id y (z .0))))) (id⊢ 𝓤 _) $ pick ! (λ z.
+                            split ! $ move ! (1 ∷ []) $ heard ! (Looked h id y (z .0)) (λ y-said. fsplit ! $ move ! (1 ∷ []) $ drop ! $ move ! (1 ∷ []) $ split ! $ move ! (1 ∷ []) $
+                            -- [the answer; T0; the station's last value; T12; IO; locals]
+                            peeks ! (still X) (Is (still X)) (shows 𝓤 H A (still X)) y (v ∷ []) (λ y-is. land ! (from ! (stop !)) (init ! 33 refl (Xk .fits y v y-is)) $
+                            assigns ! (addr ! (from ! (fld ! refl (hop ! (look-in ! 45 (sub ! 0 refl (whole !))) (stop !))))) (from ! (stop !)) (init ! 21 refl (tt, tt)) $
+                            assigns ! (agg ! (and-then ! (load ! (from ! (stop !)) (look ! 21 refl)) (and-then ! (load ! (from ! (fld ! refl (stop !))) (look-in ! 45 (sub ! 1 refl (whole !)))) (no-more !)))) (from ! (stop !)) (init ! 19 refl (tt, (tt, (record { fits = room .0 }, tt)))) $
+                            move ! (3 ∷ 0 ∷ 4 ∷ []) $ use3 W (raw (CShow .pre (to-show y v))) (goes-show y v) $
+                            calls-at ! fm CShow known-show (to-show y v) (and-then ! (load ! (from ! (stop !)) (look ! 31 refl)) (and-then ! (load ! (from ! (stop !)) (look ! 47 refl)) (and-then ! (load ! (from ! (stop !)) (look ! 45 refl)) (and-then ! (load ! (from ! (stop !)) (look ! 17 refl)) (and-then ! (load ! (from ! (stop !)) (look ! 41 refl)) (no-more !)))))) (λ w.
+                            use1 W (later (some (λ (r : D .Denot). (T12 ⊛ ‵ (D .own r (w ∷ []))) ⊛ raw (ensured 𝓤 H A show-ended show-clauses (κ₁, (κ₂, tt)) (show-args y) tt r)))) (id⊢ 𝓤 _) $ await ! tt $ pick ! (λ r.
+                            split ! $ move ! (1 ∷ []) $ use1 W (some (λ (ws : U × (U × (U × (List ℕ × (U × U))))). ‵ (lasts show-ended (κ₁, (κ₂, tt)) (show-args y) ws) ⊛ raw (fact 𝓤 (Shows y (s .now) n ys c r (ws .1 .1 .1 .0))))) (id⊢ 𝓤 _) $ pick ! (λ ws.
+                            split ! $ move ! (1 ∷ []) $ heard ! (Shows y (s .now) n ys c r (ws .1 .1 .1 .0)) (λ r-said. fsplit ! $ drop ! $ fsplit ! $ drop ! $ fsplit ! $ drop ! $ fsplit ! $ fsplit ! $ move ! (1 ∷ []) $ feqL ! (λ len.
+                            move ! (1 ∷ []) $ drop ! $ move ! (1 ∷ []) $ split ! $ move ! (1 ∷ []) $
+                            -- [the result; T12; the last list; T0; the station's last value; locals]
+                            peeks ! (still D) (Is (still D)) (shows 𝓤 H A (still D)) r (w ∷ []) (λ r-is. land ! (from ! (stop !)) (init ! 53 refl (Dk .fits r w r-is)) $
+                            returns-within ! Post refl (look ! 53 refl) $ frees-behind 𝓤 H A W 5 (bare (bare (bare (bare (bare (bare (bare (has (has (has (bare (bare (bare (bare (has (has (has (has (has (has (has (has (has (has (has none-left))))))))))))))))))))))))) refl $
+                            by ! (exits r w (z .0) (ws .1 .1 .1 .0) (holds-looks h (s .now) n ys c l k id y (z .0) r (ws .1 .1 .1 .0) l-said (ev .1) (lk .1) y-said r-said) len))))))))))))),
+                        ((λ t. absurd (miss rest 4 tt t)), (λ n. absurd (n .0 .1 refl))),
+                      ))
+                      (λ nl.
+                      rewrite ! 36 (λ (us : List Val). ‵ (fat fullShare (C .ty) l8 0 (only us))) (ap (λ (v : Val). v ∷ []) (nl .2)) refl $
+                      switches ! (load ! (from ! (vrt ! refl (fld ! refl (stop !)))) (look-tag ! 36 (whole !))) (
+                        (λ t. absurd (nl .4 t)),
+                        (
+                          (λ _.
+                              -- any other call
+                              rewrite ! 36 (λ (us : List Val). ‵ (fat fullShare (C .ty) l8 0 (only us))) (ap (λ (v : Val). v ∷ []) (sym (nl .2))) refl $
+                              assigns ! (of-opd ! (load ! (from ! (fld ! refl (stop !))) (look-in ! 40 (sub ! 1 refl (whole !))))) (from ! (stop !)) (init ! 30 refl (Fk .fits (framed l) _ (Lk .frame-is l u is))) $
+                              assigns ! (addr ! (from ! (hop ! (look ! 50 refl) (stop !)))) (from ! (stop !)) (init ! 16 refl (tt, tt)) $
+                              assigns ! (agg ! (and-then ! (load ! (from ! (stop !)) (look ! 36 refl)) (and-then ! (load ! (from ! (stop !)) (look ! 30 refl)) (no-more !)))) (from ! (stop !)) (init ! 14 refl (Pk .fits (asks k (framed l)) _ (builds k (framed l) k-is (Lk .frame-is l u is)))) $
+                              -- at the borrow's own lifetime, share and name
+                              move ! (2 ∷ 3 ∷ []) $ use2 W (raw (CCall .pre (to-call k (framed l)))) (goes-call k (framed l) (builds k (framed l) k-is (Lk .frame-is l u is))) $
+                              calls-at ! fm CCall known-call (to-call k (framed l)) (and-then ! (load ! (from ! (stop !)) (look ! 15 refl)) (and-then ! (load ! (from ! (stop !)) (look ! 13 refl)) (no-more !))) (λ v.
+                              use1 W (later (some (λ (y : O .Denot). (T0 ⊛ ‵ (O .own y (v ∷ []))) ⊛ raw (ensured 𝓤 H A call-ended call-clauses (κ₀, tt) (call-args k (framed l)) tt y)))) (id⊢ 𝓤 _) $ await ! tt $ pick ! (λ y.
+                              split ! $ move ! (1 ∷ []) $ use1 W (some (λ (z : Z .Denot × (U × U)). ‵ (lasts call-ended (κ₀, tt) (call-args k (framed l)) z) ⊛ raw (fact 𝓤 (Called h (asks k (framed l)) y (z .0))))) (id⊢ 𝓤 _) $ pick ! (λ z.
+                              split ! $ move ! (1 ∷ []) $ heard ! (Called h (asks k (framed l)) y (z .0)) (λ y-said. fsplit ! $ move ! (1 ∷ []) $ drop ! $ move ! (1 ∷ []) $ split ! $ move ! (1 ∷ []) $
+                              -- [the answer; T0; the station's last value; T12; IO; locals]
+                              peeks ! (still O) (Is (still O)) (shows 𝓤 H A (still O)) y (v ∷ []) (λ y-is. land ! (from ! (stop !)) (init ! 29 refl (Ok .fits y v y-is)) $
+                              assigns ! (addr ! (from ! (fld ! refl (hop ! (look-in ! 45 (sub ! 0 refl (whole !))) (stop !))))) (from ! (stop !)) (init ! 13 refl (tt, tt)) $
+                              assigns ! (agg ! (and-then ! (load ! (from ! (stop !)) (look ! 13 refl)) (and-then ! (load ! (from ! (fld ! refl (stop !))) (look-in ! 45 (sub ! 1 refl (whole !)))) (no-more !)))) (from ! (stop !)) (init ! 11 refl (tt, (tt, (record { fits = room .0 }, tt)))) $
+                              move ! (3 ∷ 0 ∷ 4 ∷ []) $ use3 W (raw (CReply .pre (to-reply y k v))) (goes-reply y k v k-is) $
+                              calls-at ! fm CReply known-reply (to-reply y k v) (and-then ! (load ! (from ! (stop !)) (look ! 27 refl)) (and-then ! (load ! (from ! (stop !)) (look ! 35 refl)) (and-then ! (load ! (from ! (stop !)) (look ! 47 refl)) (and-then ! (load ! (from ! (stop !)) (look ! 45 refl)) (and-then ! (load ! (from ! (stop !)) (look ! 9 refl)) (and-then ! (load ! (from ! (stop !)) (look ! 41 refl)) (no-more !))))))) (λ w.
+                              use1 W (later (some (λ (r : D .Denot). (T12 ⊛ ‵ (D .own r (w ∷ []))) ⊛ raw (ensured 𝓤 H A reply-ended reply-clauses (κ₁, (κ₂, tt)) (reply-args y k) tt r)))) (id⊢ 𝓤 _) $ await ! tt $ pick ! (λ r.
+                              split ! $ move ! (1 ∷ []) $ use1 W (some (λ (ws : U × (U × (U × (U × (List ℕ × (U × U)))))). ‵ (lasts reply-ended (κ₁, (κ₂, tt)) (reply-args y k) ws) ⊛ raw (fact 𝓤 (Replies y k (s .now) n ys c r (ws .1 .1 .1 .1 .0))))) (id⊢ 𝓤 _) $ pick ! (λ ws.
+                              split ! $ move ! (1 ∷ []) $ heard ! (Replies y k (s .now) n ys c r (ws .1 .1 .1 .1 .0)) (λ r-said. fsplit ! $ drop ! $ fsplit ! $ drop ! $ fsplit ! $ drop ! $ fsplit ! $ drop ! $ fsplit ! $ fsplit ! $ move ! (1 ∷ []) $ feqL ! (λ len.
+                              move ! (1 ∷ []) $ drop ! $ move ! (1 ∷ []) $ split ! $ move ! (1 ∷ []) $
+                              -- [the result; T12; the last list; T0; the station's last value; locals]
+                              peeks ! (still D) (Is (still D)) (shows 𝓤 H A (still D)) r (w ∷ []) (λ r-is. land ! (from ! (stop !)) (init ! 53 refl (Dk .fits r w r-is)) $
+                              returns-within ! Post refl (look ! 53 refl) $ frees-behind 𝓤 H A W 5 (bare (bare (bare (has (has (has (has (bare (bare (bare (bare (bare (has (has (bare (bare (has (has (has (has (has (has (has (has (has none-left))))))))))))))))))))))))) refl $
+                              by ! (exits r w (z .0) (ws .1 .1 .1 .1 .0) (holds-asks h (s .now) n ys c l k y (z .0) r (ws .1 .1 .1 .1 .0) l-said (ev .1) (nl .5) y-said r-said) len))))))))))))),
+                          (λ n. absurd (n .1 (nl .3))),
+                        ),
+                      ))),
+                  ((λ t. absurd (miss (1 ∷ []) 0 tt t)), (λ n. absurd (n .0 .1 refl))),
+                ))
                 (λ ov′. let w = ov′ .0 in let w-is = Vk .other-is w (subst (λ (e : E₀ .Denot). Is (row E) e (E .val e ∷ [])) (ov′ .1) (Lk .event-is l u is)) in
                 rewrite ! 38 (λ (us : List Val). ‵ (fat fullShare (E .ty) l7 0 (only us))) (ap (λ (v : Val). v ∷ []) (ov′ .2)) refl $
                 first ! $ switches ! (load ! (from ! (vrt ! refl (fld ! refl (stop !)))) (look-tag ! 38 (whole !))) (
-                (λ t. absurd (miss (0 ∷ []) 1 tt t)),
-                ((λ _.
-                -- what a line says besides
-                assigns ! (of-opd ! (load ! (from ! (vrt ! refl (fld ! refl (stop !)))) (look-in ! 38 (in-variant ! 1 0 refl refl (whole !))))) (from ! (stop !)) (init ! 26 refl (Qk .fits w _ w-is)) $
-                -- the borrow is opened
-                move ! (3 ∷ []) $ fsplit3 ! $ drop ! $ move ! (0 ∷ 1 ∷ 4 ∷ []) $
-                opens ! tt (still Z) {h = h} b o (λ vs. spelt ! (still Z) (Is (still Z)) (shows 𝓤 H A (still Z)) (λ y. Z .val y ∷ []) (Zk .tells) fullShare h vs b o $
-                move ! (1 ∷ []) $ peeks ! (still Z) (Is (still Z)) (shows 𝓤 H A (still Z)) h (Z .val h ∷ []) (λ g. drop ! $
-                -- [the cell; the open borrow; obs; auth; T12; IO; locals]
-                assigns ! (of-opd ! (load ! (from ! (hop ! (look ! 52 refl) (stop !))) (look-raw ! 0 refl))) (from ! (stop !)) (init ! 10 refl (Zk .fits h _ g)) $
-                assigns ! (addr ! (from ! (fld ! refl (hop ! (look-in ! 46 (sub ! 0 refl (whole !))) (stop !))))) (from ! (stop !)) (init ! 8 refl (tt, tt)) $
-                assigns ! (agg ! (and-then ! (load ! (from ! (stop !)) (look ! 8 refl)) (and-then ! (load ! (from ! (fld ! refl (stop !))) (look-in ! 46 (sub ! 1 refl (whole !)))) (no-more !)))) (from ! (stop !)) (init ! 6 refl (tt, (tt, (record { fits = room .0 }, tt)))) $
-                move ! (4 ∷ 5 ∷ []) $ use2 W (raw (CValue .pre (to-value w))) (goes-value w g w-is) $
-                calls-at ! fm CValue known-value (to-value w) (and-then ! (load ! (from ! (stop !)) (look ! 9 refl)) (and-then ! (load ! (from ! (stop !)) (look ! 27 refl)) (and-then ! (load ! (from ! (stop !)) (look ! 49 refl)) (and-then ! (load ! (from ! (stop !)) (look ! 47 refl)) (and-then ! (load ! (from ! (stop !)) (look ! 5 refl)) (and-then ! (load ! (from ! (stop !)) (look ! 43 refl)) (no-more !))))))) (λ v′.
-                use1 W (later (some (λ (v : R .Denot). (T12 ⊛ ‵ (R .own v (v′ ∷ []))) ⊛ raw (ensured 𝓤 H A value-ended value-clauses (κ₁, (κ₂, tt)) (value-args w) tt v)))) (id⊢ 𝓤 _) $ await ! tt $ pick ! (λ v.
-                split ! $ move ! (1 ∷ []) $ use1 W (some (λ (ws : U × (U × (U × (U × (List ℕ × (U × U)))))). ‵ (lasts value-ended (κ₁, (κ₂, tt)) (value-args w) ws) ⊛ raw (fact 𝓤 (Takes h w (s .now) n ys c v (ws .1 .1 .1 .1 .0))))) (id⊢ 𝓤 _) $ pick ! (λ ws.
-                split ! $ move ! (1 ∷ []) $ heard ! (Takes h w (s .now) n ys c v (ws .1 .1 .1 .1 .0)) (λ v-said. fsplit ! $ drop ! $ fsplit ! $ drop ! $ fsplit ! $ drop ! $ fsplit ! $ drop ! $ fsplit ! $ fsplit ! $ move ! (1 ∷ []) $ feqL ! (λ len.
-                move ! (1 ∷ []) $ drop ! $ move ! (1 ∷ []) $ split ! $ move ! (1 ∷ []) $
-                -- [the answer; T12; the last list; the cell; the open borrow; obs; auth; locals]
-                peeks ! R (Is R) (shows 𝓤 H A R) v (v′ ∷ []) (λ v-is.
-                land ! (from ! (stop !)) (init ! 27 refl (Rk .fits v v′ v-is)) $ drop ! $
-                rewrite ! 26 (λ (us : List Val). ‵ (fat fullShare (answerTy νr Z D) l14 0 (only us))) (Rk .tells v v′ v-is) refl $
-                assigns ! (of-opd ! (load ! (from ! (fld ! refl (stop !))) (look-in ! 26 (sub ! 0 refl (whole !))))) (from ! (hop ! (look ! 52 refl) (stop !))) (store-raw ! 2 refl (Zk .fits (st v) _ (Rk .first v v′ v-is))) $
-                assigns ! (of-opd ! (load ! (from ! (fld ! refl (stop !))) (look-in ! 26 (sub ! 1 refl (whole !))))) (from ! (stop !)) (init ! 54 refl (Dk .fits (cur v) _ (Rk .second v v′ v-is))) $
-                -- the borrow is closed, and what says its last value is made of its half of the ghost variable
-                owned ! (still Z) (Is (still Z)) (Zk .makes) (st v) _ (Rk .first v v′ v-is) $ move ! (3 ∷ 0 ∷ 4 ∷ 5 ∷ 6 ∷ []) $ closes ! tt (still Z) (st v) (Z .val (st v) ∷ []) b o $
-                use1 W (‵ (fres γ (Z .coded .code (st v)))) (W .names .obs-res γ (Z .coded .code (st v))) $ move ! (1 ∷ []) $ drop ! $ nothing ! $ move ! (2 ∷ 0 ∷ []) $ join ! $
-                owned ! (still D) (Is (still D)) (Dk .makes) (cur v) _ (Rk .second v v′ v-is) $ move ! (0 ∷ 3 ∷ 4 ∷ 1 ∷ 2 ∷ []) $
-                -- [the result; T12; the last list; T0; the station's last value; locals]
-                returns-within ! Post refl (look ! 53 refl) $ frees-behind 𝓤 H A W 5 (has (has (has (bare (bare (bare (bare (bare (bare (bare (has (has (bare (bare (bare (bare (bare (has (has (has (has (has (has (has (has none-left))))))))))))))))))))))))) refl $
-                by ! (exits (cur v) (D .val (cur v)) (st v) (ws .1 .1 .1 .1 .0) (holds-other h (s .now) n ys c l w v (ws .1 .1 .1 .1 .0) l-said (ov′ .1) v-said) len)))))))))),
-                (λ n. absurd (n .1 refl))))))))))))))))))))))))))))))))))
+                  (λ t. absurd (miss (0 ∷ []) 1 tt t)),
+                  (
+                    (λ _.
+                        -- what a line says besides
+                        assigns ! (of-opd ! (load ! (from ! (vrt ! refl (fld ! refl (stop !)))) (look-in ! 38 (in-variant ! 1 0 refl refl (whole !))))) (from ! (stop !)) (init ! 26 refl (Qk .fits w _ w-is)) $
+                        -- the borrow is opened
+                        move ! (3 ∷ []) $ fsplit3 ! $ drop ! $ move ! (0 ∷ 1 ∷ 4 ∷ []) $
+                        opens ! tt (still Z) {h = h} b o (λ vs. spelt ! (still Z) (Is (still Z)) (shows 𝓤 H A (still Z)) (λ y. Z .val y ∷ []) (Zk .tells) fullShare h vs b o $
+                        move ! (1 ∷ []) $ peeks ! (still Z) (Is (still Z)) (shows 𝓤 H A (still Z)) h (Z .val h ∷ []) (λ g. drop ! $
+                        -- [the cell; the open borrow; obs; auth; T12; IO; locals]
+                        assigns ! (of-opd ! (load ! (from ! (hop ! (look ! 52 refl) (stop !))) (look-raw ! 0 refl))) (from ! (stop !)) (init ! 10 refl (Zk .fits h _ g)) $
+                        assigns ! (addr ! (from ! (fld ! refl (hop ! (look-in ! 46 (sub ! 0 refl (whole !))) (stop !))))) (from ! (stop !)) (init ! 8 refl (tt, tt)) $
+                        assigns ! (agg ! (and-then ! (load ! (from ! (stop !)) (look ! 8 refl)) (and-then ! (load ! (from ! (fld ! refl (stop !))) (look-in ! 46 (sub ! 1 refl (whole !)))) (no-more !)))) (from ! (stop !)) (init ! 6 refl (tt, (tt, (record { fits = room .0 }, tt)))) $
+                        move ! (4 ∷ 5 ∷ []) $ use2 W (raw (CValue .pre (to-value w))) (goes-value w g w-is) $
+                        calls-at ! fm CValue known-value (to-value w) (and-then ! (load ! (from ! (stop !)) (look ! 9 refl)) (and-then ! (load ! (from ! (stop !)) (look ! 27 refl)) (and-then ! (load ! (from ! (stop !)) (look ! 49 refl)) (and-then ! (load ! (from ! (stop !)) (look ! 47 refl)) (and-then ! (load ! (from ! (stop !)) (look ! 5 refl)) (and-then ! (load ! (from ! (stop !)) (look ! 43 refl)) (no-more !))))))) (λ v′.
+                        use1 W (later (some (λ (v : R .Denot). (T12 ⊛ ‵ (R .own v (v′ ∷ []))) ⊛ raw (ensured 𝓤 H A value-ended value-clauses (κ₁, (κ₂, tt)) (value-args w) tt v)))) (id⊢ 𝓤 _) $ await ! tt $ pick ! (λ v.
+                        split ! $ move ! (1 ∷ []) $ use1 W (some (λ (ws : U × (U × (U × (U × (List ℕ × (U × U)))))). ‵ (lasts value-ended (κ₁, (κ₂, tt)) (value-args w) ws) ⊛ raw (fact 𝓤 (Takes h w (s .now) n ys c v (ws .1 .1 .1 .1 .0))))) (id⊢ 𝓤 _) $ pick ! (λ ws.
+                        split ! $ move ! (1 ∷ []) $ heard ! (Takes h w (s .now) n ys c v (ws .1 .1 .1 .1 .0)) (λ v-said. fsplit ! $ drop ! $ fsplit ! $ drop ! $ fsplit ! $ drop ! $ fsplit ! $ drop ! $ fsplit ! $ fsplit ! $ move ! (1 ∷ []) $ feqL ! (λ len.
+                        move ! (1 ∷ []) $ drop ! $ move ! (1 ∷ []) $ split ! $ move ! (1 ∷ []) $
+                        -- [the answer; T12; the last list; the cell; the open borrow; obs; auth; locals]
+                        peeks ! R (Is R) (shows 𝓤 H A R) v (v′ ∷ []) (λ v-is.
+                        land ! (from ! (stop !)) (init ! 27 refl (Rk .fits v v′ v-is)) $ drop ! $
+                        rewrite ! 26 (λ (us : List Val). ‵ (fat fullShare (answerTy νr Z D) l14 0 (only us))) (Rk .tells v v′ v-is) refl $
+                        assigns ! (of-opd ! (load ! (from ! (fld ! refl (stop !))) (look-in ! 26 (sub ! 0 refl (whole !))))) (from ! (hop ! (look ! 52 refl) (stop !))) (store-raw ! 2 refl (Zk .fits (st v) _ (Rk .first v v′ v-is))) $
+                        assigns ! (of-opd ! (load ! (from ! (fld ! refl (stop !))) (look-in ! 26 (sub ! 1 refl (whole !))))) (from ! (stop !)) (init ! 54 refl (Dk .fits (cur v) _ (Rk .second v v′ v-is))) $
+                        -- the borrow is closed, and what says its last value is made of its half of the ghost variable
+                        owned ! (still Z) (Is (still Z)) (Zk .makes) (st v) _ (Rk .first v v′ v-is) $ move ! (3 ∷ 0 ∷ 4 ∷ 5 ∷ 6 ∷ []) $ closes ! tt (still Z) (st v) (Z .val (st v) ∷ []) b o $
+                        use1 W (‵ (fres γ (Z .coded .code (st v)))) (W .names .obs-res γ (Z .coded .code (st v))) $ move ! (1 ∷ []) $ drop ! $ nothing ! $ move ! (2 ∷ 0 ∷ []) $ join ! $
+                        owned ! (still D) (Is (still D)) (Dk .makes) (cur v) _ (Rk .second v v′ v-is) $ move ! (0 ∷ 3 ∷ 4 ∷ 1 ∷ 2 ∷ []) $
+                        -- [the result; T12; the last list; T0; the station's last value; locals]
+                        returns-within ! Post refl (look ! 53 refl) $ frees-behind 𝓤 H A W 5 (has (has (has (bare (bare (bare (bare (bare (bare (bare (has (has (bare (bare (bare (bare (bare (has (has (has (has (has (has (has (has none-left))))))))))))))))))))))))) refl $
+                        by ! (exits (cur v) (D .val (cur v)) (st v) (ws .1 .1 .1 .1 .0) (holds-other h (s .now) n ys c l w v (ws .1 .1 .1 .1 .0) l-said (ov′ .1) v-said) len)))))))))),
+                    (λ n. absurd (n .1 refl)),
+                  ),
+                )))))))))))))))))))))))))))))))
 
       goes : AllGo 𝓤 H A W 3 (ended .signature .params) (ended .kept) stayed
       goes = (goes-gave-ref 𝓤 H A W 3 0 tt (plain (λ _. still Z)), (goes-dropped 𝓤 H A W 3 (shrSliceOf (1 ∷ []) tt (plain (λ _. u8))) yes (λ κs x f. refl), (goes-dropped 𝓤 H A W 3 (plain (λ _. usize)) yes (λ κs x f. refl), (goes-gave-slice 𝓤 H A W 3 2 tt (plain (λ _. u8)), (goes-dropped 𝓤 H A W 3 (plain (λ _. still D)) yes (λ κs x f. refl), tt)))))

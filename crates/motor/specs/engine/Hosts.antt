@@ -23,8 +23,8 @@ abbrev pub candidates : ℕ → List ℕ
 candidates own = dedup (own ∷ 0xFD ∷ 0xFF ∷ 0xFE ∷ [])
 
 -- four places, those past the count 0
-unfoldable pub candidatesOf : ℕ → Candidates
-candidatesOf own = record { hosts = take 4 (candidates own ++ (0 ∷ 0 ∷ 0 ∷ 0 ∷ [])); count = length (candidates own) }
+unfoldable pub hostCandidates : ℕ → Candidates
+hostCandidates own = record { hosts = take 4 (candidates own ++ (0 ∷ 0 ∷ 0 ∷ 0 ∷ [])); count = length (candidates own) }
 
 -- the host at a place, with the next place
 abbrev pub hostAt : Candidates → ℕ → Host
@@ -37,5 +37,5 @@ firstHost own hosts.Candidates = own
 firstHost own (hosts.Named h) = h
 
 abbrev pub nextHost : ℕ → Hosts → ℕ → Host
-nextHost own hosts.Candidates i = hostAt (candidatesOf own) i
+nextHost own hosts.Candidates i = hostAt (hostCandidates own) i
 nextHost own (hosts.Named h) i = host.Gone

@@ -18,97 +18,97 @@ use Rattle.motor.specs.declared.engine.node.Pinged.the-variants as pinge
 use Rattle.motor.specs.declared.engine.node.Request.the-variants as request
 use Rattle.motor.specs.declared.engine.node.Wait.{Wait}
 use Rattle.motor.specs.declared.engine.node.Wait.the-variants as wait
-use Rattle.motor.specs.engine.Script.{windowOf, done, gone, ask, tell, get, put, setMode, ping, setProtocolWith, signedIn, floatIn, asFlag, asSigned, asFloat, asMode, stopIn, stopAt, target, cspLimit, ppAcceleration, ppVelocity, aimAt, modeOff, tryAgain, firstRead, backRead, ensureOk, ensureLost}
+use Rattle.motor.specs.engine.Script.{windowOf, finished, failedBySilence, sendWithStatusAck, sendWithResponseAck, getParameter, put, setMode, pingEach, setProtocol, signedIn, floatIn, asFlag, asSigned, asFloat, asMode, stopIn, stopAt, positionTarget, cspLimit, ppAcceleration, ppVelocity, aimAt, modeOff, tryAgain, firstRead, backRead, ensureAcked, ensureLost}
 
 -- how an operation begins
-abbrev pub begins : Command → Node
-begins (command.Ping timeout) = ping timeout pinged.Report
-begins (command.PingWithHostId host timeout) = node.Await (wait.Ping pinged.Report) (windowOf timeout 0) (hosts.Named host)
-begins (command.SetMode m) = setMode m acked.Done
-begins (command.EnsureControlMode m timeout) = get 0x7005 timeout (got.EnsureFirst (aimAt m timeout))
-begins command.SetZeroPosition = ask request.SetZeroPosition 320 acked.ZeroState
-begins command.SaveParameters = tell request.SaveParameters 500 acked.Done
-begins (command.GetProtocolFlag timeout) = get 0x2022 timeout got.Flag
-begins (command.SetProtocol protocol timeout) = setProtocolWith protocol timeout
-begins (command.SetDeviceId new) = ping 140 (pinged.Rename new)
-begins command.Enable = ask request.Enable 240 acked.Done
-begins command.Disable = ask request.Disable 240 acked.Done
-begins command.ClearError = ask request.ClearError 240 acked.FaultCleared
-begins (command.SetActiveReport on) = node.Last (request.ActiveReport on)
-begins (command.SendCmdMit position velocity kp kd torque) = node.Motion (position .bits) (velocity .bits) (kp .bits) (kd .bits) (torque .bits) outcome.Done
-begins (command.SetVelocityTarget velocity) = put 0x700A (value.F32 velocity) acked.Done
-begins (command.GetControlMode timeout) = get 0x7005 timeout got.Mode
-begins (command.ControlledStop timeout) = get 0x7005 timeout (got.StopMode timeout)
-begins (command.WriteParameter id v) = put id v acked.Done
-begins (command.SendCmdPosVelCsp position most) = setMode mode.PositionCsp (acked.CspEnable (position .bits) (most .bits))
-begins (command.SendCmdPosVelPp position most acceleration) = setMode mode.Position (acked.PpEnable (position .bits) (most .bits) (acceleration .bits))
-begins (command.RequestParameter id) = node.Last (request.Read id)
-begins (command.GetParameter id timeout) = get id timeout got.Value
-begins (command.GetParameterWithHostId id host timeout) = node.Await (wait.Value id got.Value) (windowOf timeout 0) (hosts.Named host)
-begins (command.GetParameterF32 id timeout) = get id timeout got.F32
-begins (command.GetParameterI8 id timeout) = get id timeout got.I8
+abbrev pub beginsWith : Command → Node
+beginsWith (command.Ping timeout) = pingEach timeout pinged.Report
+beginsWith (command.PingWithHostId host timeout) = node.Await (wait.Ping pinged.Report) (windowOf timeout 0) (hosts.Named host)
+beginsWith (command.SetMode m) = setMode m acked.Done
+beginsWith (command.EnsureControlMode m timeout) = getParameter 0x7005 timeout (got.EnsureFirst (aimAt m timeout))
+beginsWith command.SetZeroPosition = sendWithStatusAck request.SetZeroPosition 320 acked.ZeroState
+beginsWith command.SaveParameters = sendWithResponseAck request.SaveParameters 500 acked.Done
+beginsWith (command.GetProtocolFlag timeout) = getParameter 0x2022 timeout got.Flag
+beginsWith (command.SetProtocol protocol timeout) = setProtocol protocol timeout
+beginsWith (command.SetDeviceId new) = pingEach 140 (pinged.Rename new)
+beginsWith command.Enable = sendWithStatusAck request.Enable 240 acked.Done
+beginsWith command.Disable = sendWithStatusAck request.Disable 240 acked.Done
+beginsWith command.ClearError = sendWithStatusAck request.ClearError 240 acked.FaultCleared
+beginsWith (command.SetActiveReport on) = node.Last (request.ActiveReport on)
+beginsWith (command.SendCmdMit position velocity kp kd torque) = node.Motion (position .bits) (velocity .bits) (kp .bits) (kd .bits) (torque .bits) outcome.Done
+beginsWith (command.SetVelocityTarget velocity) = put 0x700A (value.F32 velocity) acked.Done
+beginsWith (command.GetControlMode timeout) = getParameter 0x7005 timeout got.Mode
+beginsWith (command.ControlledStop timeout) = getParameter 0x7005 timeout (got.StopMode timeout)
+beginsWith (command.WriteParameter id v) = put id v acked.Done
+beginsWith (command.SendCmdPosVelCsp position most) = setMode mode.PositionCsp (acked.CspEnable (position .bits) (most .bits))
+beginsWith (command.SendCmdPosVelPp position most acceleration) = setMode mode.Position (acked.PpEnable (position .bits) (most .bits) (acceleration .bits))
+beginsWith (command.RequestParameter id) = node.Last (request.Read id)
+beginsWith (command.GetParameter id timeout) = getParameter id timeout got.Value
+beginsWith (command.GetParameterWithHostId id host timeout) = node.Await (wait.Value id got.Value) (windowOf timeout 0) (hosts.Named host)
+beginsWith (command.GetParameterF32 id timeout) = getParameter id timeout got.F32
+beginsWith (command.GetParameterI8 id timeout) = getParameter id timeout got.I8
 
 -- what follows an acknowledgement, or a pause
-abbrev pub okOf : Acked → Node
-okOf acked.Done = done
-okOf acked.FaultCleared = node.ClearFault
-okOf acked.ZeroState = put 0x7029 (value.U8 1) acked.Done
-okOf (acked.Stopped m) = node.Finish (outcome.Mode m)
-okOf (acked.CspEnable position most) = ask request.Enable 240 (acked.CspLimit position most)
-okOf (acked.CspLimit position most) = cspLimit position most
-okOf (acked.PpEnable position most acceleration) = ask request.Enable 240 (acked.PpVelocity position most acceleration)
-okOf (acked.PpVelocity position most acceleration) = ppVelocity position most acceleration
-okOf (acked.PpAcceleration position acceleration) = ppAcceleration position acceleration
-okOf (acked.Target position) = target position
-okOf (acked.Ensure stage a) = ensureOk stage a
+abbrev pub ackedOf : Acked → Node
+ackedOf acked.Done = finished
+ackedOf acked.FaultCleared = node.ClearFault
+ackedOf acked.ZeroState = put 0x7029 (value.U8 1) acked.Done
+ackedOf (acked.Stopped m) = node.Finish (outcome.Mode m)
+ackedOf (acked.CspEnable position most) = sendWithStatusAck request.Enable 240 (acked.CspLimit position most)
+ackedOf (acked.CspLimit position most) = cspLimit position most
+ackedOf (acked.PpEnable position most acceleration) = sendWithStatusAck request.Enable 240 (acked.PpVelocity position most acceleration)
+ackedOf (acked.PpVelocity position most acceleration) = ppVelocity position most acceleration
+ackedOf (acked.PpAcceleration position acceleration) = ppAcceleration position acceleration
+ackedOf (acked.Target position) = positionTarget position
+ackedOf (acked.Ensure stage a) = ensureAcked stage a
 
 -- what follows when every window is gone: 16, but in ensure_control_mode
-abbrev pub lostOf : Acked → Node
-lostOf acked.Done = gone
-lostOf acked.FaultCleared = gone
-lostOf acked.ZeroState = gone
-lostOf (acked.Stopped m) = gone
-lostOf (acked.CspEnable position most) = gone
-lostOf (acked.CspLimit position most) = gone
-lostOf (acked.PpEnable position most acceleration) = gone
-lostOf (acked.PpVelocity position most acceleration) = gone
-lostOf (acked.PpAcceleration position acceleration) = gone
-lostOf (acked.Target position) = gone
-lostOf (acked.Ensure stage a) = ensureLost stage a
+abbrev pub notAcked : Acked → Node
+notAcked acked.Done = failedBySilence
+notAcked acked.FaultCleared = failedBySilence
+notAcked acked.ZeroState = failedBySilence
+notAcked (acked.Stopped m) = failedBySilence
+notAcked (acked.CspEnable position most) = failedBySilence
+notAcked (acked.CspLimit position most) = failedBySilence
+notAcked (acked.PpEnable position most acceleration) = failedBySilence
+notAcked (acked.PpVelocity position most acceleration) = failedBySilence
+notAcked (acked.PpAcceleration position acceleration) = failedBySilence
+notAcked (acked.Target position) = failedBySilence
+notAcked (acked.Ensure stage a) = ensureLost stage a
 
 -- what follows a value
-abbrev pub gotOf : Sight → Got → ParameterValue → Node
-gotOf s got.Value v = node.Finish (outcome.Value v)
-gotOf s got.Flag v = asFlag v
-gotOf s got.F32 v = asFloat (floatIn v) (λ w. node.Finish (outcome.F32 w))
-gotOf s got.I8 v = asSigned (signedIn v) (λ n. node.Finish (outcome.I8 n))
-gotOf s got.Mode v = asMode (signedIn v) (λ m. node.Finish (outcome.Mode m))
-gotOf s (got.StopMode timeout) v = asMode (signedIn v) (stopIn timeout)
-gotOf s got.StopCsp v = asFloat (floatIn v) (λ w. put 0x7016 (value.F32 w) (acked.Stopped mode.PositionCsp))
-gotOf s got.StopMit v = asFloat (floatIn v) (stopAt s)
-gotOf s (got.EnsureFirst a) v = firstRead a (signedIn v)
-gotOf s (got.EnsureBack a) v = backRead a (signedIn v)
+abbrev pub gotValue : Sight → Got → ParameterValue → Node
+gotValue s got.Value v = node.Finish (outcome.Value v)
+gotValue s got.Flag v = asFlag v
+gotValue s got.F32 v = asFloat (floatIn v) (λ w. node.Finish (outcome.F32 w))
+gotValue s got.I8 v = asSigned (signedIn v) (λ n. node.Finish (outcome.I8 n))
+gotValue s got.Mode v = asMode (signedIn v) (λ m. node.Finish (outcome.Mode m))
+gotValue s (got.StopMode timeout) v = asMode (signedIn v) (stopIn timeout)
+gotValue s got.StopCsp v = asFloat (floatIn v) (λ w. put 0x7016 (value.F32 w) (acked.Stopped mode.PositionCsp))
+gotValue s got.StopMit v = asFloat (floatIn v) (stopAt s)
+gotValue s (got.EnsureFirst a) v = firstRead a (signedIn v)
+gotValue s (got.EnsureBack a) v = backRead a (signedIn v)
 
 -- what follows when no value has come to any host
-abbrev pub lostGot : Got → Node
-lostGot got.Value = gone
-lostGot got.Flag = gone
-lostGot got.F32 = gone
-lostGot got.I8 = gone
-lostGot got.Mode = gone
-lostGot (got.StopMode timeout) = gone
-lostGot got.StopCsp = gone
-lostGot got.StopMit = gone
-lostGot (got.EnsureFirst a) = modeOff a
-lostGot (got.EnsureBack a) = tryAgain a
+abbrev pub noValue : Got → Node
+noValue got.Value = failedBySilence
+noValue got.Flag = failedBySilence
+noValue got.F32 = failedBySilence
+noValue got.I8 = failedBySilence
+noValue got.Mode = failedBySilence
+noValue (got.StopMode timeout) = failedBySilence
+noValue got.StopCsp = failedBySilence
+noValue got.StopMit = failedBySilence
+noValue (got.EnsureFirst a) = modeOff a
+noValue (got.EnsureBack a) = tryAgain a
 
 -- what follows a ping reply
-abbrev pub pingedOf : Pinged → Node
-pingedOf pinged.Report = node.Report
-pingedOf (pinged.Rename new) = node.Rename new
+abbrev pub gotPing : Pinged → Node
+gotPing pinged.Report = node.Report
+gotPing (pinged.Rename new) = node.Rename new
 
 -- what follows a wait whose last window is gone
-abbrev pub goneOf : Wait → Node
-goneOf (wait.Acknowledged by r k) = lostOf k
-goneOf (wait.Value id k) = lostGot k
-goneOf (wait.Ping k) = gone
+abbrev pub windowsGone : Wait → Node
+windowsGone (wait.Acknowledged by r k) = notAcked k
+windowsGone (wait.Value id k) = noValue k
+windowsGone (wait.Ping k) = failedBySilence

@@ -5,57 +5,57 @@ use mathlib.Core.List.{List, [], _∷_}
 use Rattle.codec.specs.declared.bus.CanFrame.{CanFrame}
 use Rattle.codec.specs.declared.motion.MitCommand.{MitCommand}
 use Rattle.codec.specs.declared.word.Word.{Word}
-use Rattle.codec.specs.Ids.{joined}
+use Rattle.codec.specs.Ids.{buildExtId}
 use Rattle.codec.specs.Models.{limitsOf}
-use Rattle.codec.specs.Motion.{mitCommand}
-use Rattle.codec.specs.Replies.{zeros, setProtocol}
-use Rattle.codec.specs.Values.{readPayload, writePayload}
+use Rattle.codec.specs.Motion.{encodeMitCommand}
+use Rattle.codec.specs.Replies.{zeros, encodeSetProtocol}
+use Rattle.codec.specs.Values.{encodeParameterRead, encodeParameterWrite}
 use Rattle.codec.specs.Words.{valueOf}
 use Rattle.motor.specs.declared.engine.operation.Sight.{Sight}
 use Rattle.motor.specs.declared.engine.node.Request.{Request}
 use Rattle.motor.specs.declared.engine.node.Request.the-variants as request
 
-abbrev pub typeOf : Request → ℕ
-typeOf request.Ping = 0
-typeOf request.Enable = 3
-typeOf request.Disable = 4
-typeOf request.ClearError = 4
-typeOf request.SetZeroPosition = 6
-typeOf (request.Read id) = 17
-typeOf (request.Write id raw) = 18
-typeOf request.SaveParameters = 22
-typeOf (request.ActiveReport on) = 24
-typeOf (request.SetProtocol protocol) = 25
+abbrev pub requestType : Request → ℕ
+requestType request.Ping = 0
+requestType request.Enable = 3
+requestType request.Disable = 4
+requestType request.ClearError = 4
+requestType request.SetZeroPosition = 6
+requestType (request.Read id) = 17
+requestType (request.Write id raw) = 18
+requestType request.SaveParameters = 22
+requestType (request.ActiveReport on) = 24
+requestType (request.SetProtocol protocol) = 25
 
 -- a first byte of 1, then zeros
 abbrev pub one : List ℕ
 one = 1 ∷ 0 ∷ 0 ∷ 0 ∷ 0 ∷ 0 ∷ 0 ∷ 0 ∷ []
 
-abbrev pub payloadOf : Request → List ℕ
-payloadOf request.Ping = zeros
-payloadOf request.Enable = zeros
-payloadOf request.Disable = zeros
-payloadOf request.ClearError = one
-payloadOf request.SetZeroPosition = one
-payloadOf (request.Read id) = readPayload id
-payloadOf (request.Write id raw) = writePayload id raw
-payloadOf request.SaveParameters = 1 ∷ 2 ∷ 3 ∷ 4 ∷ 5 ∷ 6 ∷ 7 ∷ 8 ∷ []
-payloadOf (request.ActiveReport on) = 1 ∷ 2 ∷ 3 ∷ 4 ∷ 5 ∷ 6 ∷ cond on 1 0 ∷ 0 ∷ []
-payloadOf (request.SetProtocol protocol) = setProtocol protocol .payload
+abbrev pub requestPayload : Request → List ℕ
+requestPayload request.Ping = zeros
+requestPayload request.Enable = zeros
+requestPayload request.Disable = zeros
+requestPayload request.ClearError = one
+requestPayload request.SetZeroPosition = one
+requestPayload (request.Read id) = encodeParameterRead id
+requestPayload (request.Write id raw) = encodeParameterWrite id raw
+requestPayload request.SaveParameters = 1 ∷ 2 ∷ 3 ∷ 4 ∷ 5 ∷ 6 ∷ 7 ∷ 8 ∷ []
+requestPayload (request.ActiveReport on) = 1 ∷ 2 ∷ 3 ∷ 4 ∷ 5 ∷ 6 ∷ cond on 1 0 ∷ 0 ∷ []
+requestPayload (request.SetProtocol protocol) = encodeSetProtocol protocol .payload
 
 -- a frame sent has dlc 8, is extended and not received
 abbrev pub frameTo : Sight → ℕ → ℕ → List ℕ → CanFrame
 frameTo s type extra payload =
-    record { «arbitration_id» = joined type extra (s .«motor_id» % 256); «data» = payload; dlc = 8; «is_extended» = true; «is_rx» = false }
+    record { «arbitration_id» = buildExtId type extra (s .«motor_id» % 256); «data» = payload; dlc = 8; «is_extended» = true; «is_rx» = false }
 
 -- a request to a host
-abbrev pub asked : Sight → Request → ℕ → CanFrame
-asked s r host = frameTo s (typeOf r) host (payloadOf r)
+abbrev pub requestFrame : Sight → Request → ℕ → CanFrame
+requestFrame s r host = frameTo s (requestType r) host (requestPayload r)
 
 -- the motion command of five words
 abbrev pub motionOf : Sight → Word → Word → Word → Word → Word → MitCommand
 motionOf s position velocity kp kd torque =
-    mitCommand (valueOf position) (valueOf velocity) (valueOf kp) (valueOf kd) (valueOf torque) (limitsOf (s .model))
+    encodeMitCommand (valueOf position) (valueOf velocity) (valueOf kp) (valueOf kd) (valueOf torque) (limitsOf (s .model))
 
 abbrev pub motionFrame : Sight → MitCommand → CanFrame
 motionFrame s c = frameTo s 1 (c .«extra_data») (c .payload)

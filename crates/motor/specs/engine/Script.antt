@@ -17,7 +17,7 @@ use Rattle.codec.specs.declared.registers.ModeRead.{ModeRead}
 use Rattle.codec.specs.declared.registers.ModeRead.the-variants as read
 use Rattle.codec.specs.declared.word.Word.{Word}
 use Rattle.codec.specs.Models.{limitsOf}
-use Rattle.codec.specs.Modes.{modeNumber, modeRead}
+use Rattle.codec.specs.Modes.{controlModeNumber, controlModeFromRaw}
 use Rattle.codec.specs.Words.{valueOf, wordOf}
 use Rattle.motor.specs.declared.engine.candidates.Hosts.the-variants as hosts
 use Rattle.motor.specs.declared.engine.command.Outcome.the-variants as outcome
@@ -51,24 +51,24 @@ windowOf timeout least = cond (ltb timeout least) least (cond (ltb longestTimeou
 -- ---- what operations are made of
 
 -- finished with nothing to give
-abbrev pub done : Node
-done = node.Finish outcome.Done
+abbrev pub finished : Node
+finished = node.Finish outcome.Done
 
 -- the last window is gone
-abbrev pub gone : Node
-gone = node.Fail refusal.WindowsGone
+abbrev pub failedBySilence : Node
+failedBySilence = node.Fail refusal.WindowsGone
 
 -- a request to each candidate until the feedback sequence rises; then what follows
-abbrev pub ask : Request → ℕ → Acked → Node
-ask r window k = node.Await (wait.Acknowledged by.Status r k) window hosts.Candidates
+abbrev pub sendWithStatusAck : Request → ℕ → Acked → Node
+sendWithStatusAck r window k = node.Await (wait.Acknowledged by.Status r k) window hosts.Candidates
 
 -- the same until the response count rises
-abbrev pub tell : Request → ℕ → Acked → Node
-tell r window k = node.Await (wait.Acknowledged by.Response r k) window hosts.Candidates
+abbrev pub sendWithResponseAck : Request → ℕ → Acked → Node
+sendWithResponseAck r window k = node.Await (wait.Acknowledged by.Response r k) window hosts.Candidates
 
 -- get_parameter: a read to each candidate
-abbrev pub get : ℕ → ℕ → Got → Node
-get id timeout k = node.Await (wait.Value id k) (windowOf timeout 150) hosts.Candidates
+abbrev pub getParameter : ℕ → ℕ → Got → Node
+getParameter id timeout k = node.Await (wait.Value id k) (windowOf timeout 150) hosts.Candidates
 
 -- write_parameter
 abbrev pub put : ℕ → ParameterValue → Acked → Node
@@ -76,11 +76,11 @@ put id v k = node.Write id v k
 
 -- set_mode
 abbrev pub setMode : ControlMode → Acked → Node
-setMode m k = put 0x7005 (value.I8 (modeNumber m)) k
+setMode m k = put 0x7005 (value.I8 (controlModeNumber m)) k
 
 -- ping, to each candidate
-abbrev pub ping : ℕ → Pinged → Node
-ping timeout k = node.Await (wait.Ping k) (windowOf timeout 120) hosts.Candidates
+abbrev pub pingEach : ℕ → Pinged → Node
+pingEach timeout k = node.Await (wait.Ping k) (windowOf timeout 120) hosts.Candidates
 
 -- 0.0
 abbrev pub zeroWord : Word
@@ -92,9 +92,9 @@ word bits = record { bits = bits }
 
 -- ---- set_protocol: with timeout 0 nothing waits
 
-abbrev pub setProtocolWith : ℕ → ℕ → Node
-setProtocolWith protocol timeout =
-    cond (eqb timeout 0) (node.Last (request.SetProtocol protocol)) (tell (request.SetProtocol protocol) (windowOf timeout 120) acked.Done)
+abbrev pub setProtocol : ℕ → ℕ → Node
+setProtocol protocol timeout =
+    cond (eqb timeout 0) (node.Last (request.SetProtocol protocol)) (sendWithResponseAck (request.SetProtocol protocol) (windowOf timeout 120) acked.Done)
 
 -- ---- get_control_mode, and the reads that ask for a kind: 20 where the value is of another, 17 where it is no mode
 
@@ -135,7 +135,7 @@ asFloat (float.Float w) k = k w
 asFloat float.Another k = otherKind
 
 abbrev pub modeIn : SignedIn → ModeRead
-modeIn (signed.Signed n) = modeRead n
+modeIn (signed.Signed n) = controlModeFromRaw n
 modeIn signed.Another = read.Refused refusal.ReadingOfAnotherKind
 
 abbrev pub asMode : SignedIn → (ControlMode → Node) → Node
@@ -149,10 +149,10 @@ stopGain w most =
     cond (lt (valueOf w) (mul binary32 most (ofBits binary32 0x3CA3D70A))) (wordOf (mul binary32 most (ofBits binary32 0x3DCCCCCD))) w
 
 abbrev pub stopIn : ℕ → ControlMode → Node
-stopIn timeout mode.Mit = get 0x7019 timeout got.StopMit
+stopIn timeout mode.Mit = getParameter 0x7019 timeout got.StopMit
 stopIn timeout mode.Position = put 0x7024 (value.F32 zeroWord) (acked.Stopped mode.Position)
 stopIn timeout mode.Velocity = put 0x700A (value.F32 zeroWord) (acked.Stopped mode.Velocity)
-stopIn timeout mode.PositionCsp = get 0x7019 timeout got.StopCsp
+stopIn timeout mode.PositionCsp = getParameter 0x7019 timeout got.StopCsp
 
 abbrev pub stopAt : Sight → Word → Node
 stopAt s angle =
@@ -166,21 +166,21 @@ unfoldable pub absOf : ℕ → ℕ
 absOf w = w % 2 ^ 31
 
 -- finite and above 0, of an absolute value
-abbrev pub usable : ℕ → Bool
-usable w = ltb 0 w && ltb w 0x7F800000
+abbrev pub isUsable : ℕ → Bool
+isUsable w = ltb 0 w && ltb w 0x7F800000
 
-abbrev pub target : ℕ → Node
-target position = put 0x7016 (value.F32 (word position)) acked.Done
+abbrev pub positionTarget : ℕ → Node
+positionTarget position = put 0x7016 (value.F32 (word position)) acked.Done
 
 -- the limit of this parameter, then k; or at once what k comes to
 abbrev pub limit : ℕ → ℕ → Acked → Node → Node
-limit id w k at-once = cond (usable (absOf w)) (put id (value.F32 (word (absOf w))) k) at-once
+limit id w k at-once = cond (isUsable (absOf w)) (put id (value.F32 (word (absOf w))) k) at-once
 
 abbrev pub cspLimit : ℕ → ℕ → Node
-cspLimit position most = limit 0x7017 most (acked.Target position) (target position)
+cspLimit position most = limit 0x7017 most (acked.Target position) (positionTarget position)
 
 abbrev pub ppAcceleration : ℕ → ℕ → Node
-ppAcceleration position acceleration = limit 0x7025 acceleration (acked.Target position) (target position)
+ppAcceleration position acceleration = limit 0x7025 acceleration (acked.Target position) (positionTarget position)
 
 abbrev pub ppVelocity : ℕ → ℕ → ℕ → Node
 ppVelocity position most acceleration = limit 0x7024 most (acked.PpAcceleration position acceleration) (ppAcceleration position acceleration)
@@ -193,10 +193,10 @@ aimAt m timeout = record { mode = m; timeout = timeout; left = 3; actual = last.
 
 -- the value read is the mode aimed at; `ofZ w8` is the byte of a signed number
 unfoldable pub isMode : Aim → ℤ → Bool
-isMode a v = eqb (ofZ w8 v) (ofZ w8 (modeNumber (a .mode)))
+isMode a v = eqb (ofZ w8 v) (ofZ w8 (controlModeNumber (a .mode)))
 
 abbrev pub modeOff : Aim → Node
-modeOff a = ask request.Disable 240 (acked.Ensure ensure.Off a)
+modeOff a = sendWithStatusAck request.Disable 240 (acked.Ensure ensure.Off a)
 
 abbrev pub tryIn : ℕ → Aim → Node
 tryIn zero a = node.Fail (refusal.ModeNotReached (a .actual))
@@ -204,7 +204,7 @@ tryIn (suc left) a =
     setMode (a .mode) (acked.Ensure ensure.Written (record { mode = a .mode; timeout = a .timeout; left = left; actual = a .actual }))
 
 abbrev pub readBack : Aim → Node
-readBack a = get 0x7005 (a .timeout) (got.EnsureBack a)
+readBack a = getParameter 0x7005 (a .timeout) (got.EnsureBack a)
 
 abbrev pub tryAgain : Aim → Node
 tryAgain a = node.Pause 30 (acked.Ensure ensure.Try a)
@@ -214,21 +214,21 @@ abbrev pub lastRead : Aim → ℤ → Aim
 lastRead a v = record { mode = a .mode; timeout = a .timeout; left = a .left; actual = last.Read v }
 
 abbrev pub firstRead : Aim → SignedIn → Node
-firstRead a (signed.Signed v) = cond (isMode a v) done (modeOff a)
+firstRead a (signed.Signed v) = cond (isMode a v) finished (modeOff a)
 firstRead a signed.Another = modeOff a
 
 abbrev pub backRead : Aim → SignedIn → Node
-backRead a (signed.Signed v) = cond (isMode a v) done (tryAgain (lastRead a v))
+backRead a (signed.Signed v) = cond (isMode a v) finished (tryAgain (lastRead a v))
 backRead a signed.Another = tryAgain a
 
-abbrev pub ensureOk : Ensure → Aim → Node
-ensureOk ensure.Off a = node.Pause 60 (acked.Ensure ensure.Try a)
-ensureOk ensure.Try a = tryIn (a .left) a
-ensureOk ensure.Written a = node.Pause 30 (acked.Ensure ensure.Back a)
-ensureOk ensure.Back a = readBack a
+abbrev pub ensureAcked : Ensure → Aim → Node
+ensureAcked ensure.Off a = node.Pause 60 (acked.Ensure ensure.Try a)
+ensureAcked ensure.Try a = tryIn (a .left) a
+ensureAcked ensure.Written a = node.Pause 30 (acked.Ensure ensure.Back a)
+ensureAcked ensure.Back a = readBack a
 
 abbrev pub ensureLost : Ensure → Aim → Node
 ensureLost ensure.Off a = node.Pause 60 (acked.Ensure ensure.Try a)
-ensureLost ensure.Try a = gone
+ensureLost ensure.Try a = failedBySilence
 ensureLost ensure.Written a = tryAgain a
-ensureLost ensure.Back a = gone
+ensureLost ensure.Back a = failedBySilence

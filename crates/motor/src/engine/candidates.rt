@@ -1,6 +1,6 @@
 // The hosts that a request goes to, one after the other.
 ghost use mathlib.Core.Path.{_≡_};
-ghost use Rattle.motor.specs.engine.Hosts.{candidatesOf, hostAt, firstHost, nextHost};
+ghost use Rattle.motor.specs.engine.Hosts.{hostCandidates, hostAt, firstHost, nextHost};
 
 // The host candidates: a four-place array and a count. Places past the count are 0.
 pub struct Candidates {
@@ -22,7 +22,7 @@ pub enum Host {
 
 // The motor's own host, then FD, FF, FE, with adjacent equals dropped.
 pub fn host_candidates(own: u16) -> Candidates
-    ensures { λ r. ⌜ r ≡ candidatesOf own ⌝ }
+    ensures { λ r. ⌜ r ≡ hostCandidates own ⌝ }
 {
     if own == 0xFD {
         return Candidates {
@@ -48,7 +48,7 @@ pub(super) fn first_host(own: u16, hosts: Hosts) -> u16
 
 // The candidate at a place.
 fn host_at(own: u16, place: u8) -> Host
-    ensures { λ r. ⌜ r ≡ hostAt (candidatesOf own) place ⌝ }
+    ensures { λ r. ⌜ r ≡ hostAt (hostCandidates own) place ⌝ }
 {
     let c = host_candidates(own);
     let hosts = c.hosts;

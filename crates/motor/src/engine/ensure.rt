@@ -19,7 +19,7 @@ use codec::protocol::ParameterValue;
 use codec::registers::ControlMode;
 use codec::registers::ParameterId;
 ghost use mathlib.Core.Path.{_≡_};
-ghost use Rattle.motor.specs.engine.Script.{signedIn, aimAt, isMode, get, modeOff, tryIn, tryAgain, firstRead, backRead, ensureOk, ensureLost};
+ghost use Rattle.motor.specs.engine.Script.{signedIn, aimAt, isMode, getParameter, modeOff, tryIn, tryAgain, firstRead, backRead, ensureAcked, ensureLost};
 ghost use Rattle.motor.specs.declared.engine.node.Got.the-variants as got;
 ghost use Rattle.motor.specs.declared.engine.kinds.SignedIn.the-variants as signed;
 
@@ -31,7 +31,7 @@ const BETWEEN: u32 = 30;
 
 // The run mode is read first.
 pub(super) fn ensure_begins(mode: ControlMode, timeout: u64) -> Node
-    ensures { λ r. ⌜ r ≡ get 0x7005 timeout (got.EnsureFirst (aimAt mode timeout)) ⌝ }
+    ensures { λ r. ⌜ r ≡ getParameter 0x7005 timeout (got.EnsureFirst (aimAt mode timeout)) ⌝ }
 {
     let aim = Aim {
         mode,
@@ -122,7 +122,7 @@ pub(super) fn back_read(aim: Aim, reading: ParameterValue) -> Node
 
 // What follows each stage's acknowledgement, or its pause.
 pub(super) fn ensure_acked(stage: Ensure, aim: Aim) -> Node
-    ensures { λ r. ⌜ r ≡ ensureOk stage aim ⌝ }
+    ensures { λ r. ⌜ r ≡ ensureAcked stage aim ⌝ }
 {
     match stage {
         Ensure::Off => Node::Pause(AFTER_DISABLE, Acked::Ensure(Ensure::Try, aim)),

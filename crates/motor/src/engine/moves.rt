@@ -23,13 +23,13 @@ ghost use Prim.Native.Nat.{_≤_, _+_};
 ghost use Rattle.motor.specs.declared.engine.command.Outcome.the-variants as outcome;
 ghost use Rattle.motor.specs.declared.engine.operation.Effect.the-variants as effect;
 ghost use Rattle.motor.specs.Limits.{latestTime};
-ghost use Rattle.motor.specs.engine.Requests.{asked, renameFrame};
+ghost use Rattle.motor.specs.engine.Requests.{requestFrame, renameFrame};
 ghost use Rattle.motor.specs.engine.Script.{word};
-ghost use Rattle.motor.specs.engine.Run.{idle, pausing, over, overWith, reported, paused, still, sentOn, requestOf, drops, countBy, markOf, attempt, lastDrops, motion};
+ghost use Rattle.motor.specs.engine.Run.{noOperation, pausingUntil, ended, endedWith, pingReported, pauses, waits, sentOn, requestOf, droppedBy, countBy, markOf, tried, droppedByLast, motionSent};
 
 // Nothing runs.
 pub fn no_operation() -> Operation
-    ensures { λ r. ⌜ r ≡ idle ⌝ }
+    ensures { λ r. ⌜ r ≡ noOperation ⌝ }
 {
     Operation {
         phase: Phase::Idle,
@@ -44,7 +44,7 @@ pub fn no_operation() -> Operation
 
 // Before what follows at this time.
 fn pausing_until(then: Acked, until: u64) -> Operation
-    ensures { λ r. ⌜ r ≡ pausing then until ⌝ }
+    ensures { λ r. ⌜ r ≡ pausingUntil then until ⌝ }
 {
     Operation {
         phase: Phase::Pausing(then),
@@ -59,7 +59,7 @@ fn pausing_until(then: Acked, until: u64) -> Operation
 
 // The operation is over, and nothing is sent.
 pub(super) fn ended(said: Said, effect: Effect) -> Move
-    ensures { λ r. ⌜ r ≡ over said effect ⌝ }
+    ensures { λ r. ⌜ r ≡ ended said effect ⌝ }
 {
     Move {
         said,
@@ -72,7 +72,7 @@ pub(super) fn ended(said: Said, effect: Effect) -> Move
 
 // The operation is over with a last frame.
 pub(super) fn ended_with(outcome: Outcome, frame: CanFrame, effect: Effect) -> Move
-    ensures { λ r. ⌜ r ≡ overWith outcome frame effect ⌝ }
+    ensures { λ r. ⌜ r ≡ endedWith outcome frame effect ⌝ }
 {
     Move {
         said: Said::FinishedWith(outcome),
@@ -85,7 +85,7 @@ pub(super) fn ended_with(outcome: Outcome, frame: CanFrame, effect: Effect) -> M
 
 // A ping's result.
 pub(super) fn ping_reported(sight: Sight) -> Move
-    ensures { λ r. ⌜ r ≡ reported sight ⌝ }
+    ensures { λ r. ⌜ r ≡ pingReported sight ⌝ }
 {
     let held = sight.ping_reply;
     let reply = held.reply;
@@ -101,7 +101,7 @@ pub(super) fn ping_reported(sight: Sight) -> Move
 
 // A pause.
 pub(super) fn pauses(then: Acked, until: u64) -> Move
-    ensures { λ r. ⌜ r ≡ paused then until ⌝ }
+    ensures { λ r. ⌜ r ≡ pauses then until ⌝ }
 {
     Move {
         said: Said::Waiting(until),
@@ -114,7 +114,7 @@ pub(super) fn pauses(then: Acked, until: u64) -> Move
 
 // Still waiting.
 pub(super) fn waits(operation: Operation) -> Move
-    ensures { λ r. ⌜ r ≡ still operation ⌝ }
+    ensures { λ r. ⌜ r ≡ waits operation ⌝ }
 {
     Move {
         said: Said::Waiting(operation.due),
@@ -153,7 +153,7 @@ fn request_of(wait: Wait) -> Request
 
 // Each send of a read or a ping first drops the old value.
 fn dropped_by(wait: Wait) -> Effect
-    ensures { λ r. ⌜ r ≡ drops wait ⌝ }
+    ensures { λ r. ⌜ r ≡ droppedBy wait ⌝ }
 {
     match wait {
         Wait::Acknowledged(_, _, _) => Effect::Nothing,
@@ -194,7 +194,7 @@ pub(super) fn tried(
     next: u8,
 ) -> Move
     requires { ⌜ now ≤ latestTime ⌝ }
-    ensures { λ r. ⌜ r ≡ attempt sight now wait window hosts host next ⌝ }
+    ensures { λ r. ⌜ r ≡ tried sight now wait window hosts host next ⌝ }
 {
     let due = now + window as u64;
     let frame = request_frame(sight, request_of(wait), host);
@@ -221,7 +221,7 @@ pub(super) fn tried(
 
 // request_parameter drops the held reading.
 fn dropped_by_last(request: Request) -> Effect
-    ensures { λ r. ⌜ r ≡ lastDrops request ⌝ }
+    ensures { λ r. ⌜ r ≡ droppedByLast request ⌝ }
 {
     match request {
         Request::Ping => Effect::Nothing,
@@ -239,14 +239,14 @@ fn dropped_by_last(request: Request) -> Effect
 
 // A request that nothing waits for, with finished.
 pub(super) fn last_request(sight: Sight, request: Request) -> Move
-    ensures { λ r. ⌜ r ≡ overWith outcome.Done (asked sight request (sight .«feedback_id»)) (lastDrops request) ⌝ }
+    ensures { λ r. ⌜ r ≡ endedWith outcome.Done (requestFrame sight request (sight .«feedback_id»)) (droppedByLast request) ⌝ }
 {
     let frame = request_frame(sight, request, sight.feedback_id);
     ended_with(Outcome::Done, frame, dropped_by_last(request))
 }
 
 // A motion command, of the bits of its floats; its gains are held as given.
-pub(super) fn moved(
+pub(super) fn motion_sent(
     sight: Sight,
     p: u32,
     v: u32,
@@ -255,7 +255,7 @@ pub(super) fn moved(
     t: u32,
     outcome: Outcome,
 ) -> Move
-    ensures { λ r. ⌜ r ≡ motion sight (word p) (word v) (word kp) (word kd) (word t) outcome ⌝ }
+    ensures { λ r. ⌜ r ≡ motionSent sight (word p) (word v) (word kp) (word kd) (word t) outcome ⌝ }
 {
     let kp = Word { bits: kp };
     let kd = Word { bits: kd };
@@ -272,7 +272,7 @@ pub(super) fn moved(
 
 // The motor gets another id.
 pub(super) fn renamed(sight: Sight, new_id: u8) -> Move
-    ensures { λ r. ⌜ r ≡ overWith outcome.Done (renameFrame sight «new_id») effect.Nothing ⌝ }
+    ensures { λ r. ⌜ r ≡ endedWith outcome.Done (renameFrame sight «new_id») effect.Nothing ⌝ }
 {
     ended_with(Outcome::Done, rename_frame(sight, new_id), Effect::Nothing)
 }

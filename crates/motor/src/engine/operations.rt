@@ -48,12 +48,12 @@ ghost use Rattle.motor.specs.declared.engine.node.Got.the-variants as go
 ghost use Rattle.motor.specs.declared.engine.node.Node.the-variants as node;
 ghost use Rattle.motor.specs.declared.engine.node.Pinged.the-variants as pinged;
 ghost use Rattle.motor.specs.declared.engine.node.Wait.the-variants as wait;
-ghost use Rattle.motor.specs.engine.Script.{windowOf, setProtocolWith};
-ghost use Rattle.motor.specs.engine.Operations.{begins, okOf, lostOf, gotOf, lostGot, pingedOf, goneOf};
+ghost use Rattle.motor.specs.engine.Script.{windowOf, setProtocol};
+ghost use Rattle.motor.specs.engine.Operations.{beginsWith, ackedOf, notAcked, gotValue, noValue, gotPing, windowsGone};
 
 // set_protocol: with timeout 0 nothing waits.
 fn set_protocol(protocol_cmd: u8, timeout: u64) -> Node
-    ensures { λ r. ⌜ r ≡ setProtocolWith «protocol_cmd» timeout ⌝ }
+    ensures { λ r. ⌜ r ≡ setProtocol «protocol_cmd» timeout ⌝ }
 {
     let request = Request::SetProtocol(protocol_cmd);
     if timeout == 0 {
@@ -98,7 +98,7 @@ fn send_cmd_mit(position: Word, velocity: Word, kp: Word, kd: Word, torque: Word
 
 // How an operation begins.
 pub(super) fn begins_with(command: Command) -> Node
-    ensures { λ r. ⌜ r ≡ begins command ⌝ }
+    ensures { λ r. ⌜ r ≡ beginsWith command ⌝ }
 {
     match command {
         Command::Ping(timeout) => ping_each(timeout, Pinged::Report),
@@ -151,7 +151,7 @@ pub(super) fn begins_with(command: Command) -> Node
 
 // What follows an acknowledgement, or a pause.
 pub(super) fn acked(then: Acked) -> Node
-    ensures { λ r. ⌜ r ≡ okOf then ⌝ }
+    ensures { λ r. ⌜ r ≡ ackedOf then ⌝ }
 {
     match then {
         Acked::Done => finished(),
@@ -178,7 +178,7 @@ pub(super) fn acked(then: Acked) -> Node
 
 // What follows where every window is gone: 16, but in ensure_control_mode.
 fn not_acked(then: Acked) -> Node
-    ensures { λ r. ⌜ r ≡ lostOf then ⌝ }
+    ensures { λ r. ⌜ r ≡ notAcked then ⌝ }
 {
     match then {
         Acked::Done => failed_by_silence(),
@@ -197,7 +197,7 @@ fn not_acked(then: Acked) -> Node
 
 // What follows a value.
 pub(super) fn got_value(sight: Sight, then: Got, reading: ParameterValue) -> Node
-    ensures { λ r. ⌜ r ≡ gotOf sight then reading ⌝ }
+    ensures { λ r. ⌜ r ≡ gotValue sight then reading ⌝ }
 {
     match then {
         Got::Value => Node::Finish(Outcome::Value(reading)),
@@ -215,7 +215,7 @@ pub(super) fn got_value(sight: Sight, then: Got, reading: ParameterValue) -> Nod
 
 // What follows where no value has come to any host.
 fn no_value(then: Got) -> Node
-    ensures { λ r. ⌜ r ≡ lostGot then ⌝ }
+    ensures { λ r. ⌜ r ≡ noValue then ⌝ }
 {
     match then {
         Got::Value => failed_by_silence(),
@@ -233,7 +233,7 @@ fn no_value(then: Got) -> Node
 
 // What follows a ping reply.
 pub(super) fn got_ping(then: Pinged) -> Node
-    ensures { λ r. ⌜ r ≡ pingedOf then ⌝ }
+    ensures { λ r. ⌜ r ≡ gotPing then ⌝ }
 {
     match then {
         Pinged::Report => Node::Report,
@@ -243,7 +243,7 @@ pub(super) fn got_ping(then: Pinged) -> Node
 
 // What follows a wait whose last window is gone.
 pub(super) fn windows_gone(wait: Wait) -> Node
-    ensures { λ r. ⌜ r ≡ goneOf wait ⌝ }
+    ensures { λ r. ⌜ r ≡ windowsGone wait ⌝ }
 {
     match wait {
         Wait::Acknowledged(_, _, then) => not_acked(then),

@@ -9,7 +9,7 @@ use codec::word::Word;
 ghost use mathlib.Core.Path.{_≡_};
 ghost use Rattle.codec.specs.declared.registers.ControlMode.the-variants as mode;
 ghost use Rattle.motor.specs.declared.engine.node.Acked.the-variants as acked;
-ghost use Rattle.motor.specs.engine.Script.{setMode, absOf, usable, target, cspLimit, ppAcceleration, ppVelocity};
+ghost use Rattle.motor.specs.engine.Script.{setMode, absOf, isUsable, positionTarget, cspLimit, ppAcceleration, ppVelocity};
 
 // csp: the mode first.
 pub(super) fn csp_begins(position: Word, velocity_limit: Word) -> Node
@@ -42,7 +42,7 @@ fn abs_of(w: u32) -> u32
 
 // An absolute value is finite and above 0.
 fn is_usable(w: u32) -> bool
-    ensures { λ r. ⌜ r ≡ usable w ⌝ }
+    ensures { λ r. ⌜ r ≡ isUsable w ⌝ }
 {
     if w == 0 {
         return false;
@@ -52,7 +52,7 @@ fn is_usable(w: u32) -> bool
 
 // The target.
 pub(super) fn position_target(position: u32) -> Node
-    ensures { λ r. ⌜ r ≡ target position ⌝ }
+    ensures { λ r. ⌜ r ≡ positionTarget position ⌝ }
 {
     write_float(
         ParameterId::POSITION_TARGET,

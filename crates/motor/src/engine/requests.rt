@@ -13,12 +13,12 @@ use codec::word::Word;
 use codec::word::value;
 ghost use mathlib.Core.Path.{_≡_};
 ghost use mathlib.Core.Bool.{cond};
-ghost use Rattle.codec.specs.Replies.{setProtocol};
-ghost use Rattle.motor.specs.engine.Requests.{typeOf, payloadOf, frameTo, asked, motionOf, motionFrame, renameFrame, noFrame};
+ghost use Rattle.codec.specs.Replies.{encodeSetProtocol};
+ghost use Rattle.motor.specs.engine.Requests.{requestType, requestPayload, frameTo, requestFrame, motionOf, motionFrame, renameFrame, noFrame};
 
 // The communication type of a request.
 fn request_type(request: Request) -> u32
-    ensures { λ r. ⌜ r ≡ typeOf request ⌝ }
+    ensures { λ r. ⌜ r ≡ requestType request ⌝ }
 {
     match request {
         Request::Ping => CommunicationType::GET_DEVICE_ID,
@@ -46,7 +46,7 @@ fn switch(on: bool) -> u8
 
 // The payload of a protocol command.
 fn protocol_payload(protocol_cmd: u8) -> [u8; 8]
-    ensures { λ r. ⌜ r ≡ setProtocol «protocol_cmd» .payload ⌝ }
+    ensures { λ r. ⌜ r ≡ encodeSetProtocol «protocol_cmd» .payload ⌝ }
 {
     let set = encode_set_protocol(protocol_cmd);
     let payload = set.payload;
@@ -55,7 +55,7 @@ fn protocol_payload(protocol_cmd: u8) -> [u8; 8]
 
 // The payload of a request.
 fn request_payload(request: Request) -> [u8; 8]
-    ensures { λ r. ⌜ r ≡ payloadOf request ⌝ }
+    ensures { λ r. ⌜ r ≡ requestPayload request ⌝ }
 {
     match request {
         Request::Ping => [0; 8],
@@ -87,7 +87,7 @@ fn frame_to(sight: Sight, comm_type: u32, extra_data: u16, payload: [u8; 8]) -> 
 
 // A request to a host.
 pub(super) fn request_frame(sight: Sight, request: Request, host: u16) -> CanFrame
-    ensures { λ r. ⌜ r ≡ asked sight request host ⌝ }
+    ensures { λ r. ⌜ r ≡ requestFrame sight request host ⌝ }
 {
     let comm_type = request_type(request);
     let payload = request_payload(request);

@@ -10,7 +10,7 @@ use crate::engine::moves::count_by;
 use crate::engine::moves::ended;
 use crate::engine::moves::ended_with;
 use crate::engine::moves::last_request;
-use crate::engine::moves::moved;
+use crate::engine::moves::motion_sent;
 use crate::engine::moves::pauses;
 use crate::engine::moves::ping_reported;
 use crate::engine::moves::renamed;
@@ -46,45 +46,45 @@ use codec::protocol::encode_parameter_value;
 ghost use mathlib.Core.Path.{_≡_};
 ghost use Prim.Native.Nat.{_≤_};
 ghost use Rattle.motor.specs.Limits.{latestTime};
-ghost use Rattle.motor.specs.engine.Operations.{okOf};
-ghost use Rattle.codec.specs.Values.{encodedValue};
-ghost use Rattle.motor.specs.engine.Run.{afterNode, sendThen, awaiting, lookPause, writeRaw, write, enter, retry, lookAck, lookValue, lookPing, look, advance, begin, tooLate, inTime};
+ghost use Rattle.motor.specs.engine.Operations.{ackedOf};
+ghost use Rattle.codec.specs.Values.{encodeParameterValue};
+ghost use Rattle.motor.specs.engine.Run.{afterNode, sendThen, awaited, lookedPause, writeRaw, write, entered, retried, lookedAck, lookedValue, lookedPing, looked, advanced, begunBy, tooLate, inTime};
 
 // ---- a node is entered
 
 // What follows a frame that nothing waits for: it ends, it pauses, or it goes on at once.
-pub enum After {
+pub enum AfterNode {
     Ends(Outcome),
     Pauses(u32, Acked),
     Goes,
 }
 
-fn after_node(node: Node) -> After
+fn after_node(node: Node) -> AfterNode
     ensures { λ r. ⌜ r ≡ afterNode node ⌝ }
 {
     match node {
-        Node::Finish(outcome) => After::Ends(outcome),
-        Node::Report => After::Goes,
-        Node::ClearFault => After::Goes,
-        Node::Fail(_) => After::Goes,
-        Node::Pause(time, then) => After::Pauses(time, then),
-        Node::Last(_) => After::Goes,
-        Node::Write(_, _, _) => After::Goes,
-        Node::Await(_, _, _) => After::Goes,
-        Node::Motion(_, _, _, _, _, _) => After::Goes,
-        Node::Rename(_) => After::Goes,
+        Node::Finish(outcome) => AfterNode::Ends(outcome),
+        Node::Report => AfterNode::Goes,
+        Node::ClearFault => AfterNode::Goes,
+        Node::Fail(_) => AfterNode::Goes,
+        Node::Pause(time, then) => AfterNode::Pauses(time, then),
+        Node::Last(_) => AfterNode::Goes,
+        Node::Write(_, _, _) => AfterNode::Goes,
+        Node::Await(_, _, _) => AfterNode::Goes,
+        Node::Motion(_, _, _, _, _, _) => AfterNode::Goes,
+        Node::Rename(_) => AfterNode::Goes,
     }
 }
 
 // A frame that nothing waits for: with finished, with a pause that begins in this step, or what follows is due at once.
 fn sent_then(now: u64, frame: CanFrame, then: Acked) -> Move
     requires { ⌜ now ≤ latestTime ⌝ }
-    ensures { λ r. ⌜ r ≡ sendThen now frame then (afterNode (okOf then)) ⌝ }
+    ensures { λ r. ⌜ r ≡ sendThen now frame then (afterNode (ackedOf then)) ⌝ }
 {
     match after_node(acked(then)) {
-        After::Ends(outcome) => return ended_with(outcome, frame, Effect::Nothing),
-        After::Pauses(time, next) => return sent_on(frame, next, now + time as u64),
-        After::Goes => return sent_on(frame, then, now),
+        AfterNode::Ends(outcome) => return ended_with(outcome, frame, Effect::Nothing),
+        AfterNode::Pauses(time, next) => return sent_on(frame, next, now + time as u64),
+        AfterNode::Goes => return sent_on(frame, then, now),
     }
 }
 
@@ -106,7 +106,7 @@ fn write_raw(sight: Sight, now: u64, request: Request, then: Acked) -> Move
 // A write, through the encoder.
 fn written(sight: Sight, now: u64, param_id: u16, value: ParameterValue, then: Acked) -> Move
     requires { ⌜ now ≤ latestTime ⌝ }
-    ensures { λ r. ⌜ r ≡ write sight now «param_id» then (encodedValue «param_id» value) ⌝ }
+    ensures { λ r. ⌜ r ≡ write sight now «param_id» then (encodeParameterValue «param_id» value) ⌝ }
 {
     match encode_parameter_value(param_id, value) {
         EncodedValue::Raw(raw) => return write_raw(sight, now, Request::Write(param_id, raw), then),
@@ -117,7 +117,7 @@ fn written(sight: Sight, now: u64, param_id: u16, value: ParameterValue, then: A
 // A wait begins, at its first host.
 fn awaited(sight: Sight, now: u64, wait: Wait, window: u32, hosts: Hosts) -> Move
     requires { ⌜ now ≤ latestTime ⌝ }
-    ensures { λ r. ⌜ r ≡ awaiting sight now wait window hosts ⌝ }
+    ensures { λ r. ⌜ r ≡ awaited sight now wait window hosts ⌝ }
 {
     let host = first_host(sight.feedback_id, hosts);
     tried(sight, now, wait, window, hosts, host, 1)
@@ -125,7 +125,7 @@ fn awaited(sight: Sight, now: u64, wait: Wait, window: u32, hosts: Hosts) -> Mov
 
 pub(super) fn entered(sight: Sight, now: u64, node: Node) -> Move
     requires { ⌜ now ≤ latestTime ⌝ }
-    ensures { λ r. ⌜ r ≡ enter sight now node ⌝ }
+    ensures { λ r. ⌜ r ≡ entered sight now node ⌝ }
 {
     match node {
         Node::Finish(outcome) => ended(Said::Finished(outcome), Effect::Nothing),
@@ -136,7 +136,7 @@ pub(super) fn entered(sight: Sight, now: u64, node: Node) -> Move
         Node::Last(request) => last_request(sight, request),
         Node::Write(id, value, then) => written(sight, now, id, value, then),
         Node::Await(wait, window, hosts) => awaited(sight, now, wait, window, hosts),
-        Node::Motion(p, v, kp, kd, t, outcome) => moved(sight, p, v, kp, kd, t, outcome),
+        Node::Motion(p, v, kp, kd, t, outcome) => motion_sent(sight, p, v, kp, kd, t, outcome),
         Node::Rename(new_id) => renamed(sight, new_id),
     }
 }
@@ -146,7 +146,7 @@ pub(super) fn entered(sight: Sight, now: u64, node: Node) -> Move
 // The window is gone: the next host, if there is one.
 fn retried(sight: Sight, now: u64, operation: Operation, wait: Wait) -> Move
     requires { ⌜ now ≤ latestTime ⌝ }
-    ensures { λ r. ⌜ r ≡ retry sight now operation wait ⌝ }
+    ensures { λ r. ⌜ r ≡ retried sight now operation wait ⌝ }
 {
     let hosts = operation.hosts;
     match next_host(sight.feedback_id, hosts, operation.candidate) {
@@ -165,7 +165,7 @@ fn looked_ack(
     then: Acked,
 ) -> Move
     requires { ⌜ now ≤ latestTime ⌝ }
-    ensures { λ r. ⌜ r ≡ lookAck sight now operation by request then ⌝ }
+    ensures { λ r. ⌜ r ≡ lookedAck sight now operation by request then ⌝ }
 {
     if now >= operation.due {
         return retried(sight, now, operation, Wait::Acknowledged(by, request, then));
@@ -186,7 +186,7 @@ fn looked_value(
     found: Found,
 ) -> Move
     requires { ⌜ now ≤ latestTime ⌝ }
-    ensures { λ r. ⌜ r ≡ lookValue sight now operation «param_id» then found ⌝ }
+    ensures { λ r. ⌜ r ≡ lookedValue sight now operation «param_id» then found ⌝ }
 {
     let Found::Held(stored) = found else {
         if now < operation.due {
@@ -201,7 +201,7 @@ fn looked_value(
 // A ping likewise.
 fn looked_ping(sight: Sight, now: u64, operation: Operation, then: Pinged) -> Move
     requires { ⌜ now ≤ latestTime ⌝ }
-    ensures { λ r. ⌜ r ≡ lookPing sight now operation then ⌝ }
+    ensures { λ r. ⌜ r ≡ lookedPing sight now operation then ⌝ }
 {
     let ping = sight.ping_reply;
     if ping.held {
@@ -215,7 +215,7 @@ fn looked_ping(sight: Sight, now: u64, operation: Operation, then: Pinged) -> Mo
 
 fn looked(sight: Sight, now: u64, operation: Operation, found: Found, wait: Wait) -> Move
     requires { ⌜ now ≤ latestTime ⌝ }
-    ensures { λ r. ⌜ r ≡ look sight now operation found wait ⌝ }
+    ensures { λ r. ⌜ r ≡ looked sight now operation found wait ⌝ }
 {
     match wait {
         Wait::Acknowledged(by, request, then) => return looked_ack(
@@ -234,7 +234,7 @@ fn looked(sight: Sight, now: u64, operation: Operation, found: Found, wait: Wait
 // What follows a pause, once it has ended.
 fn looked_pause(sight: Sight, now: u64, operation: Operation, then: Acked) -> Move
     requires { ⌜ now ≤ latestTime ⌝ }
-    ensures { λ r. ⌜ r ≡ lookPause sight now operation then ⌝ }
+    ensures { λ r. ⌜ r ≡ lookedPause sight now operation then ⌝ }
 {
     if now < operation.due {
         return waits(operation);
@@ -245,7 +245,7 @@ fn looked_pause(sight: Sight, now: u64, operation: Operation, then: Acked) -> Mo
 // What a step does.
 fn advanced(sight: Sight, now: u64, operation: Operation, found: Found) -> Move
     requires { ⌜ now ≤ latestTime ⌝ }
-    ensures { λ r. ⌜ r ≡ advance sight now operation found (operation .phase) ⌝ }
+    ensures { λ r. ⌜ r ≡ advanced sight now operation found (operation .phase) ⌝ }
 {
     let phase = operation.phase;
     match phase {
@@ -258,7 +258,7 @@ fn advanced(sight: Sight, now: u64, operation: Operation, found: Found) -> Move
 // What a start does.
 fn begun(sight: Sight, now: u64, command: Command) -> Move
     requires { ⌜ now ≤ latestTime ⌝ }
-    ensures { λ r. ⌜ r ≡ begin sight now command ⌝ }
+    ensures { λ r. ⌜ r ≡ begunBy sight now command ⌝ }
 {
     entered(sight, now, begins_with(command))
 }
@@ -274,7 +274,7 @@ fn too_late() -> Move
 
 // A start's move.
 pub fn begin_at(sight: Sight, now: u64, command: Command) -> Move
-    ensures { λ r. ⌜ r ≡ inTime now (begin sight now command) ⌝ }
+    ensures { λ r. ⌜ r ≡ inTime now (begunBy sight now command) ⌝ }
 {
     if now > LATEST {
         return too_late();
@@ -284,7 +284,7 @@ pub fn begin_at(sight: Sight, now: u64, command: Command) -> Move
 
 // A step's move.
 pub fn advance_at(sight: Sight, now: u64, operation: Operation, found: Found) -> Move
-    ensures { λ r. ⌜ r ≡ inTime now (advance sight now operation found (operation .phase)) ⌝ }
+    ensures { λ r. ⌜ r ≡ inTime now (advanced sight now operation found (operation .phase)) ⌝ }
 {
     if now > LATEST {
         return too_late();

@@ -19,7 +19,7 @@ ghost use mathlib.Core.Path.{_≡_};
 ghost use Rattle.codec.specs.declared.error.Refusal.the-variants as refusal;
 ghost use Rattle.codec.specs.declared.protocol.ParameterValue.the-variants as value;
 ghost use Rattle.motor.specs.declared.engine.node.Node.the-variants as node;
-ghost use Rattle.motor.specs.engine.Script.{windowOf, done, gone, ask, tell, get, put, setMode, ping};
+ghost use Rattle.motor.specs.engine.Script.{windowOf, finished, failedBySilence, sendWithStatusAck, sendWithResponseAck, getParameter, put, setMode, pingEach};
 
 // A window: the timeout, or this least where it is shorter.
 pub(super) fn window_of(timeout: u64, least: u32) -> u32
@@ -36,7 +36,7 @@ pub(super) fn window_of(timeout: u64, least: u32) -> u32
 
 // 16: the last window is gone.
 pub(super) fn failed_by_silence() -> Node
-    ensures { λ r. ⌜ r ≡ gone ⌝ }
+    ensures { λ r. ⌜ r ≡ failedBySilence ⌝ }
 {
     Node::Fail(Refusal::WindowsGone)
 }
@@ -50,14 +50,14 @@ pub(super) fn failed_by_kind() -> Node
 
 // Finished, with nothing to give.
 pub(super) fn finished() -> Node
-    ensures { λ r. ⌜ r ≡ done ⌝ }
+    ensures { λ r. ⌜ r ≡ finished ⌝ }
 {
     Node::Finish(Outcome::Done)
 }
 
 // A request to each candidate, acknowledged by a status.
 pub(super) fn send_with_status_ack(request: Request, window: u32, then: Acked) -> Node
-    ensures { λ r. ⌜ r ≡ ask request window then ⌝ }
+    ensures { λ r. ⌜ r ≡ sendWithStatusAck request window then ⌝ }
 {
     let wait = Wait::Acknowledged(Acknowledgement::Status, request, then);
     Node::Await(wait, window, Hosts::Candidates)
@@ -65,7 +65,7 @@ pub(super) fn send_with_status_ack(request: Request, window: u32, then: Acked) -
 
 // A request to each candidate, acknowledged by any response.
 pub(super) fn send_with_response_ack(request: Request, window: u32, then: Acked) -> Node
-    ensures { λ r. ⌜ r ≡ tell request window then ⌝ }
+    ensures { λ r. ⌜ r ≡ sendWithResponseAck request window then ⌝ }
 {
     let wait = Wait::Acknowledged(Acknowledgement::Response, request, then);
     Node::Await(wait, window, Hosts::Candidates)
@@ -73,7 +73,7 @@ pub(super) fn send_with_response_ack(request: Request, window: u32, then: Acked)
 
 // A read to each candidate.
 pub(super) fn get_parameter(param_id: u16, timeout: u64, then: Got) -> Node
-    ensures { λ r. ⌜ r ≡ get «param_id» timeout then ⌝ }
+    ensures { λ r. ⌜ r ≡ getParameter «param_id» timeout then ⌝ }
 {
     let window = window_of(timeout, 150);
     Node::Await(Wait::Value(param_id, then), window, Hosts::Candidates)
@@ -81,7 +81,7 @@ pub(super) fn get_parameter(param_id: u16, timeout: u64, then: Got) -> Node
 
 // A ping to each candidate.
 pub(super) fn ping_each(timeout: u64, then: Pinged) -> Node
-    ensures { λ r. ⌜ r ≡ ping timeout then ⌝ }
+    ensures { λ r. ⌜ r ≡ pingEach timeout then ⌝ }
 {
     let window = window_of(timeout, 120);
     Node::Await(Wait::Ping(then), window, Hosts::Candidates)

@@ -7,35 +7,35 @@ use native.Mathlib.Numerals.{add-one}
 use native.Mathlib.Omega.{arith}
 use lib.ListN.{length, getD, drop}
 use Rattle.motor.specs.declared.motor.Motor.{Motor}
-use Rattle.station.specs.Stations.{indexOf, takenPlace}
-use Rattle.station.specs.lent.Lent.{idsOf, indexIn, takenIn}
+use Rattle.station.specs.Stations.{placeOf, takenPlace}
+use Rattle.station.specs.lent.Lent.{idsOf, placeIn, takenIn}
 use Rattle.station.proofs.Index.{not-same}
 use Rattle.station.proofs.Places.{own-id}
 
 -- an id that is passed over
-pub past : (xs : List ℕ) (i m d : ℕ) → i < length xs → (getD xs i d ≡ m → ⊥) → i + indexIn (drop i xs) m ≡ i + 1 + indexIn (drop (i + 1) xs) m
-unfolding indexIn
+pub past : (xs : List ℕ) (i m d : ℕ) → i < length xs → (getD xs i d ≡ m → ⊥) → i + placeIn (drop i xs) m ≡ i + 1 + placeIn (drop (i + 1) xs) m
+unfolding placeIn
 past xs i m d h e = rw add-one (go xs i h e)
   where
-    go : (xs : List ℕ) (i : ℕ) → i < length xs → (getD xs i d ≡ m → ⊥) → i + indexIn (drop i xs) m ≡ suc i + indexIn (drop (suc i) xs) m
+    go : (xs : List ℕ) (i : ℕ) → i < length xs → (getD xs i d ≡ m → ⊥) → i + placeIn (drop i xs) m ≡ suc i + placeIn (drop (suc i) xs) m
     go [] i h e = absurd (not-suc-le-zero h)
     go (x ∷ xs) zero h e = rw (not-same x m e) (omega arith)
     go (x ∷ xs) (suc i) h e = omega (arith, go xs i (le-of-suc-le-suc h) e)
 
-pub hit : (xs : List ℕ) (i m d : ℕ) → i < length xs → getD xs i d ≡ m → indexIn (drop i xs) m ≡ 0
-unfolding indexIn
+pub hit : (xs : List ℕ) (i m d : ℕ) → i < length xs → getD xs i d ≡ m → placeIn (drop i xs) m ≡ 0
+unfolding placeIn
 hit [] i m d h e = absurd (not-suc-le-zero h)
 hit (x ∷ xs) zero m d h e = rw (e, own-id m)
 hit (x ∷ xs) (suc i) m d h e = hit xs i m d (le-of-suc-le-suc h) e
 
-pub at-end : (xs : List ℕ) (m : ℕ) → indexIn (drop (length xs) xs) m ≡ 0
-unfolding indexIn
+pub at-end : (xs : List ℕ) (m : ℕ) → placeIn (drop (length xs) xs) m ≡ 0
+unfolding placeIn
 at-end [] m = refl
 at-end (x ∷ xs) m = at-end xs m
 
 -- the ids are those of the places
-pub same-index : (ms : List Motor) (id : ℕ) → length ms ≡ 8 → indexIn (idsOf ms) id ≡ indexOf ms id
-unfolding indexIn indexOf
+pub same-index : (ms : List Motor) (id : ℕ) → length ms ≡ 8 → placeIn (idsOf ms) id ≡ placeOf ms id
+unfolding placeIn placeOf
 same-index (a ∷ b ∷ c ∷ d ∷ e ∷ f ∷ g ∷ h ∷ []) id n = refl
 same-index [] id n = absurd (omega arith)
 same-index (a ∷ []) id n = absurd (omega arith)

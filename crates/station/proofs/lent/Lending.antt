@@ -23,7 +23,7 @@ use Rattle.motor.specs.declared.registration.Admission.the-variants as admissio
 use Rattle.motor.specs.Calls.{registerNumbers, registeredBy, registrationOf}
 use Rattle.motor.specs.Motors.{newMotor, startOf, stepOf, lookOf, removalOf}
 use Rattle.motor.specs.Numbers.{firstOf}
-use Rattle.motor.specs.Receive.{accepts, isRead, heardOf}
+use Rattle.motor.specs.Receive.{acceptsFrame, isRead, processFeedbackFrame}
 use Rattle.motor.proofs.Receiving.{heard-quiet}
 use Rattle.motor.proofs.Editing.{heard-read}
 use Rattle.station.specs.declared.call.Asked.{Asked}
@@ -36,11 +36,11 @@ use Rattle.station.specs.declared.station.Looked.{Looked}
 use Rattle.station.specs.declared.station.Station.{Station}
 use Rattle.station.specs.declared.call.Answer.the-variants as answer
 use Rattle.station.specs.Calls.{timeOf, reply, refused}
-use Rattle.station.specs.Station.{source}
-use Rattle.station.specs.Stations.{freeMotor, indexOf, takenPlace, motorAt, withMotor, atPlace, left, tells, movedAt, unmoved, lookedIn, enteredIn, admittedIn, registerBy, registerIn, startIn, stepIn, frameIn, lookIn, removeIn, callBy, callIn}
+use Rattle.station.specs.Station.{sourceOf}
+use Rattle.station.specs.Stations.{freeMotor, placeOf, takenPlace, motorAt, withMotor, atPlace, left, tell, movedAt, notMoved, lookedIn, enteredIn, admittedIn, registerBy, registerIn, startIn, stepIn, frameIn, lookIn, removeIn, callBy, callIn}
 use Rattle.station.specs.Stations as stations
 use Rattle.station.proofs.lent.IdIndex.{same-index, same-place}
-use Rattle.station.specs.lent.Lent.{removedAt, idsOf, indexIn, takenIn, routeAt, nowhere, routeTo, routeFree, routeNew, routeFrame, routeBy, routeOf, visitedBy, visitedOf, keptBy, keptOf, editedOf, editedMotor}
+use Rattle.station.specs.lent.Lent.{removedAt, idsOf, placeIn, takenIn, routeAt, nowhere, routeTo, routeFree, routeNew, routeFrame, routeBy, routedOf, visitedBy, visitedAt, keptBy, keptAt, editedAt, editedMotor}
 
 -- a station with a place left as it was is the same station
 same-station : (st : Station) (i : ℕ) → withMotor st i (motorAt st i) ≡ st
@@ -69,8 +69,8 @@ module _ (st : Station) (f : CanFrame) where
   free-done : (id host : ℕ) (model : Model) (wait time : ℕ) (b d : Bool) (i : ℕ)
       → Done st (cond b (nowhere refusal.IdRegistered) (cond d (routeAt i false false) (nowhere refusal.StationFull)))
       (call.Register id host (named.Known model) wait time) f
-      (cond b (tells st (checked.Refused refusal.IdRegistered))
-      (cond d (tells (withMotor st i (newMotor id host model wait time)) checked.Passed) (tells st (checked.Refused refusal.StationFull))))
+      (cond b (tell st (checked.Refused refusal.IdRegistered))
+      (cond d (tell (withMotor st i (newMotor id host model wait time)) checked.Passed) (tell st (checked.Refused refusal.StationFull))))
   unfolding refused
   free-done id host model wait time true d i = (refl, same-station st 0)
   free-done id host model wait time false true i = (refl, refl)
@@ -94,12 +94,12 @@ module _ (st : Station) (f : CanFrame) where
 
     frame-done : (time : ℕ) → Done st (routeFrame ids f) (call.Frame time) f (frameIn st f time)
     unfolding routeFrame routeTo frameIn atPlace refused
-    frame-done time = rw (same-place (st .motors) (source f) eight) (go (accepts (source f) f) (ltb (taken (source f)) 8))
+    frame-done time = rw (same-place (st .motors) (sourceOf f) eight) (go (acceptsFrame (sourceOf f) f) (ltb (taken (sourceOf f)) 8))
       where
         go : (a b : Bool)
-            → let i = taken (source f) in
-            let other = tells st (checked.Refused refusal.FrameNotAccepted) in
-            let t = cond a (cond b (stations.heardAt st i (heardOf (motorAt st i) f time)) other) other in
+            → let i = taken (sourceOf f) in
+            let other = tell st (checked.Refused refusal.FrameNotAccepted) in
+            let t = cond a (cond b (stations.heardAt st i (processFeedbackFrame (motorAt st i) f time)) other) other in
             let r = cond a (cond b (routeAt i (not (isRead f)) (isRead f)) (nowhere refusal.FrameNotAccepted)) (nowhere refusal.FrameNotAccepted) in
             Done st r (call.Frame time) f t
         go true true = (refl, refl)
@@ -125,7 +125,7 @@ module _ (st : Station) (f : CanFrame) where
     unfolding routeFree admittedIn enteredIn atPlace
     admitted-done id host model wait time =
         rw (same-place (st .motors) id eight, same-index (st .motors) 0 eight)
-        (free-done id host model wait time (ltb (taken id) 8) (ltb (indexOf (st .motors) 0) 8) (indexOf (st .motors) 0))
+        (free-done id host model wait time (ltb (taken id) 8) (ltb (placeOf (st .motors) 0) 8) (placeOf (st .motors) 0))
 
     register-done : (id host : ℕ) (model : ModelNamed) (wait time : ℕ)
         → Done st (routeNew ids id (registrationOf id host model wait time)) (call.Register id host model wait time) f (registerIn st id host model wait time)
@@ -142,13 +142,13 @@ module _ (st : Station) (f : CanFrame) where
     unfolding startIn stepIn removeIn refused
     done (call.Register id host model wait time) = register-done id host model wait time
     done (call.Start id c time) =
-        to-done id (call.Start id c time) (λ i. movedAt st i (startOf (motorAt st i) c time)) (unmoved st) (λ i. (refl, refl)) (refl, same-station st 0)
+        to-done id (call.Start id c time) (λ i. movedAt st i (startOf (motorAt st i) c time)) (notMoved st) (λ i. (refl, refl)) (refl, same-station st 0)
     done (call.Step id time) =
-        to-done id (call.Step id time) (λ i. movedAt st i (stepOf (motorAt st i) time)) (unmoved st) (λ i. (refl, refl)) (refl, same-station st 0)
+        to-done id (call.Step id time) (λ i. movedAt st i (stepOf (motorAt st i) time)) (notMoved st) (λ i. (refl, refl)) (refl, same-station st 0)
     done (call.Frame time) = frame-done time
     done (call.Look id) = look-done id
     done (call.Remove id time) =
-        to-done id (call.Remove id time) (λ i. stations.removedAt (removalOf (motorAt st i) time) st i) (tells st (checked.Refused refusal.IdNotRegistered))
+        to-done id (call.Remove id time) (λ i. stations.removedAt (removalOf (motorAt st i) time) st i) (tell st (checked.Refused refusal.IdNotRegistered))
         (λ i. removed-done (removalOf (motorAt st i) time) i)
         (refl, same-station st 0)
 
@@ -165,12 +165,12 @@ module _ (f : CanFrame) (ids : List ℕ) (Φ : Route → Type 0) (at-none : (r :
 
   at-free : (id : ℕ) → Φ (routeFree ids id)
   unfolding routeFree
-  at-free id = go (ltb (takenIn ids id) 8) (ltb (indexIn ids 0) 8)
+  at-free id = go (ltb (takenIn ids id) 8) (ltb (placeIn ids 0) 8)
     where
       go : (b d : Bool)
-          → Φ (cond b (nowhere refusal.IdRegistered) (cond d (routeAt (indexIn ids 0) false false) (nowhere refusal.StationFull)))
+          → Φ (cond b (nowhere refusal.IdRegistered) (cond d (routeAt (placeIn ids 0) false false) (nowhere refusal.StationFull)))
       go true d = at-none refusal.IdRegistered
-      go false true = loud (indexIn ids 0)
+      go false true = loud (placeIn ids 0)
       go false false = at-none refusal.StationFull
 
   at-new : (id : ℕ) (n : Admission) → Φ (routeNew ids id n)
@@ -179,12 +179,12 @@ module _ (f : CanFrame) (ids : List ℕ) (Φ : Route → Type 0) (at-none : (r :
 
   at-frame : ((i : ℕ) → Φ (routeAt i (not (isRead f)) (isRead f))) → Φ (routeFrame ids f)
   unfolding routeFrame routeTo
-  at-frame heard = go (accepts (source f) f) (ltb (takenIn ids (source f)) 8)
+  at-frame heard = go (acceptsFrame (sourceOf f) f) (ltb (takenIn ids (sourceOf f)) 8)
     where
       go : (a b : Bool)
           → let none = nowhere refusal.FrameNotAccepted in
-          Φ (cond a (cond b (routeAt (takenIn ids (source f)) (not (isRead f)) (isRead f)) none) none)
-      go true true = heard (takenIn ids (source f))
+          Φ (cond a (cond b (routeAt (takenIn ids (sourceOf f)) (not (isRead f)) (isRead f)) none) none)
+      go true true = heard (takenIn ids (sourceOf f))
       go true false = at-none refusal.FrameNotAccepted
       go false b = at-none refusal.FrameNotAccepted
 
@@ -212,7 +212,7 @@ module _ (k : Call) (f : CanFrame) where
       → (m : Motor) → Same r m (keptBy (r .said) (m .state) asked .replied) (record { state = keptBy (r .said) (m .state) asked .state; readings = m .readings })
 
   abbrev Edits : Route → Type 0
-  Edits r = r .edits ≡ true → (m : Motor) → Same r m (editedOf m asked .replied) (editedMotor m (editedOf m asked))
+  Edits r = r .edits ≡ true → (m : Motor) → Same r m (editedAt m asked .replied) (editedMotor m (editedAt m asked))
 
   quiets : (ids : List ℕ) → Quiet (routeBy ids k f)
   unfolding timeOf
@@ -222,7 +222,7 @@ module _ (k : Call) (f : CanFrame) where
       heard time i e q m = rw (e, heard-quiet m f time (not-true (isRead f) q)) (refl, refl)
 
   edits : (ids : List ℕ) → Edits (routeBy ids k f)
-  unfolding editedOf timeOf
+  unfolding editedAt timeOf
   edits ids = goes f ids Edits (λ r q m. absurd (true≢false (sym q))) (λ i q m. absurd (true≢false (sym q))) k heard
     where
       heard : (time i : ℕ) → k ≡ call.Frame time → Edits (routeAt i (not (isRead f)) (isRead f))
@@ -230,43 +230,43 @@ module _ (k : Call) (f : CanFrame) where
 
 -- ---- the by-value call
 
-module _ (st : Station) (eight : length (st .motors) ≡ 8) (a : Asked) (r : Route) (e : r ≡ routeOf (idsOf (st .motors)) a) where
-  pub full : (visitedOf (getD (st .motors) (r .«at») freeMotor) a r .replied ≡ callIn st a .replied)
-      × (_≡_ {A = Station} (record { motors = set (st .motors) (r .«at») (visitedOf (getD (st .motors) (r .«at») freeMotor) a r .motor) }) (callIn st a .station))
-  unfolding visitedOf callIn routeOf
+module _ (st : Station) (eight : length (st .motors) ≡ 8) (a : Asked) (r : Route) (e : r ≡ routedOf (idsOf (st .motors)) a) where
+  pub full : (visitedAt (getD (st .motors) (r .«at») freeMotor) a r .replied ≡ callIn st a .replied)
+      × (_≡_ {A = Station} (record { motors = set (st .motors) (r .«at») (visitedAt (getD (st .motors) (r .«at») freeMotor) a r .motor) }) (callIn st a .station))
+  unfolding visitedAt callIn routedOf
   full = rw e (done st (a .frame) eight (a .call))
 
   -- what is left at the place, by whichever way, is what the call by value leaves there
-  left-there : (reply : Replied) (m : Motor) → (reply ≡ visitedOf (motorAt st (r .«at»)) a r .replied) × (m ≡ visitedOf (motorAt st (r .«at»)) a r .motor)
+  left-there : (reply : Replied) (m : Motor) → (reply ≡ visitedAt (motorAt st (r .«at»)) a r .replied) × (m ≡ visitedAt (motorAt st (r .«at»)) a r .motor)
       → (reply ≡ callIn st a .replied) × (withMotor st (r .«at») m ≡ callIn st a .station)
   left-there reply m same = (same .0 ∙ full .0, ap (λ (x : Motor). withMotor st (r .«at») x) (same .1) ∙ full .1)
 
   same-kept : r .quiet ≡ true
-      → (keptOf (motorAt st (r .«at») .state) a r .replied ≡ visitedOf (motorAt st (r .«at»)) a r .replied)
-      × (_≡_ {A = Motor} (record { state = keptOf (motorAt st (r .«at») .state) a r .state; readings = motorAt st (r .«at») .readings }) (visitedOf (motorAt st (r .«at»)) a r .motor))
-  unfolding visitedOf keptOf routeOf
-  same-kept = rw e (λ q. quiets (a .call) (a .frame) (idsOf (st .motors)) q (motorAt st (routeOf (idsOf (st .motors)) a .«at»)))
+      → (keptAt (motorAt st (r .«at») .state) a r .replied ≡ visitedAt (motorAt st (r .«at»)) a r .replied)
+      × (_≡_ {A = Motor} (record { state = keptAt (motorAt st (r .«at») .state) a r .state; readings = motorAt st (r .«at») .readings }) (visitedAt (motorAt st (r .«at»)) a r .motor))
+  unfolding visitedAt keptAt routedOf
+  same-kept = rw e (λ q. quiets (a .call) (a .frame) (idsOf (st .motors)) q (motorAt st (routedOf (idsOf (st .motors)) a .«at»)))
 
   same-edited : r .edits ≡ true
-      → (editedOf (motorAt st (r .«at»)) a .replied ≡ visitedOf (motorAt st (r .«at»)) a r .replied)
-      × (editedMotor (motorAt st (r .«at»)) (editedOf (motorAt st (r .«at»)) a) ≡ visitedOf (motorAt st (r .«at»)) a r .motor)
-  unfolding visitedOf routeOf
-  same-edited = rw e (λ q. edits (a .call) (a .frame) (idsOf (st .motors)) q (motorAt st (routeOf (idsOf (st .motors)) a .«at»)))
+      → (editedAt (motorAt st (r .«at»)) a .replied ≡ visitedAt (motorAt st (r .«at»)) a r .replied)
+      × (editedMotor (motorAt st (r .«at»)) (editedAt (motorAt st (r .«at»)) a) ≡ visitedAt (motorAt st (r .«at»)) a r .motor)
+  unfolding visitedAt routedOf
+  same-edited = rw e (λ q. edits (a .call) (a .frame) (idsOf (st .motors)) q (motorAt st (routedOf (idsOf (st .motors)) a .«at»)))
 
   pub quiet : r .quiet ≡ true
-      → (keptOf (getD (st .motors) (r .«at») freeMotor .state) a r .replied ≡ callIn st a .replied)
+      → (keptAt (getD (st .motors) (r .«at») freeMotor .state) a r .replied ≡ callIn st a .replied)
       × (_≡_ {A = Station}
       (record {
         motors =
             set (st .motors) (r .«at»)
-            (record { state = keptOf (getD (st .motors) (r .«at») freeMotor .state) a r .state; readings = getD (st .motors) (r .«at») freeMotor .readings });
+            (record { state = keptAt (getD (st .motors) (r .«at») freeMotor .state) a r .state; readings = getD (st .motors) (r .«at») freeMotor .readings });
       })
       (callIn st a .station))
   quiet q = left-there _ _ (same-kept q)
 
   pub edit : r .edits ≡ true
-      → (editedOf (getD (st .motors) (r .«at») freeMotor) a .replied ≡ callIn st a .replied)
+      → (editedAt (getD (st .motors) (r .«at») freeMotor) a .replied ≡ callIn st a .replied)
       × (_≡_ {A = Station}
-      (record { motors = set (st .motors) (r .«at») (editedMotor (getD (st .motors) (r .«at») freeMotor) (editedOf (getD (st .motors) (r .«at») freeMotor) a)) })
+      (record { motors = set (st .motors) (r .«at») (editedMotor (getD (st .motors) (r .«at») freeMotor) (editedAt (getD (st .motors) (r .«at») freeMotor) a)) })
       (callIn st a .station))
   edit q = left-there _ _ (same-edited q)

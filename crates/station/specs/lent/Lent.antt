@@ -19,9 +19,9 @@ use Rattle.motor.specs.declared.quiet.StateHeard.{StateHeard}
 use Rattle.motor.specs.declared.registration.Admission.{Admission}
 use Rattle.motor.specs.declared.registration.Admission.the-variants as admission
 use Rattle.motor.specs.Calls.{registrationOf}
-use Rattle.motor.specs.Edits.{edited, readHeard}
+use Rattle.motor.specs.Edits.{editedBy, hearRead}
 use Rattle.motor.specs.Motors.{newMotor, startOf, stepOf, removalOf}
-use Rattle.motor.specs.Receive.{accepts, isRead, heardOf, stateHeard}
+use Rattle.motor.specs.Receive.{acceptsFrame, isRead, processFeedbackFrame, hearState}
 use Rattle.station.specs.declared.call.Answer.the-variants as answer
 use Rattle.station.specs.declared.call.Asked.{Asked}
 use Rattle.station.specs.declared.call.Call.{Call}
@@ -34,7 +34,7 @@ use Rattle.station.specs.declared.lent.visit.Edited.{Edited}
 use Rattle.station.specs.declared.station.Station.{Station}
 use Rattle.station.specs.Limits.{mostMotors}
 use Rattle.station.specs.Calls.{timeOf, reply, told, moved, refused}
-use Rattle.station.specs.Station.{source}
+use Rattle.station.specs.Station.{sourceOf}
 use Rattle.station.specs.Stations.{freeMotor}
 
 -- a station is its eight places
@@ -55,12 +55,12 @@ idsOf ms =
     ∷ getD ms 7 freeMotor .state .«motor_id»
     ∷ []
 
-unfoldable pub indexIn : List ℕ → ℕ → ℕ
-indexIn [] id = zero
-indexIn (x ∷ xs) id = cond (eqb x id) zero (suc (indexIn xs id))
+unfoldable pub placeIn : List ℕ → ℕ → ℕ
+placeIn [] id = zero
+placeIn (x ∷ xs) id = cond (eqb x id) zero (suc (placeIn xs id))
 
 unfoldable pub takenIn : List ℕ → ℕ → ℕ
-takenIn ids id = cond (eqb id 0) mostMotors (indexIn ids id)
+takenIn ids id = cond (eqb id 0) mostMotors (placeIn ids id)
 
 abbrev pub routeAt : ℕ → Bool → Bool → Route
 routeAt i quiet edits = record { «at» = i; said = checked.Passed; quiet = quiet; edits = edits }
@@ -76,7 +76,7 @@ routeTo ids id r quiet edits = cond (ltb (takenIn ids id) mostMotors) (routeAt (
 unfoldable pub routeFree : List ℕ → ℕ → Route
 routeFree ids id =
     cond (ltb (takenIn ids id) mostMotors) (nowhere refusal.IdRegistered)
-    (cond (ltb (indexIn ids 0) mostMotors) (routeAt (indexIn ids 0) false false) (nowhere refusal.StationFull))
+    (cond (ltb (placeIn ids 0) mostMotors) (routeAt (placeIn ids 0) false false) (nowhere refusal.StationFull))
 
 abbrev pub routeNew : List ℕ → ℕ → Admission → Route
 routeNew ids id (admission.Admitted model) = routeFree ids id
@@ -84,7 +84,7 @@ routeNew ids id (admission.Refused r) = nowhere r
 
 unfoldable pub routeFrame : List ℕ → CanFrame → Route
 routeFrame ids f =
-    cond (accepts (source f) f) (routeTo ids (source f) refusal.FrameNotAccepted (not (isRead f)) (isRead f)) (nowhere refusal.FrameNotAccepted)
+    cond (acceptsFrame (sourceOf f) f) (routeTo ids (sourceOf f) refusal.FrameNotAccepted (not (isRead f)) (isRead f)) (nowhere refusal.FrameNotAccepted)
 
 abbrev pub routeBy : List ℕ → Call → CanFrame → Route
 routeBy ids (call.Register id host model wait time) f = routeNew ids id (registrationOf id host model wait time)
@@ -94,66 +94,66 @@ routeBy ids (call.Frame time) f = routeFrame ids f
 routeBy ids (call.Look id) f = routeTo ids id refusal.IdNotRegistered false false
 routeBy ids (call.Remove id time) f = routeTo ids id refusal.IdNotRegistered false false
 
-unfoldable pub routeOf : List ℕ → Asked → Route
-routeOf ids a = routeBy ids (a .call) (a .frame)
+unfoldable pub routedOf : List ℕ → Asked → Route
+routedOf ids a = routeBy ids (a .call) (a .frame)
 
 -- ---- what it leaves at its place
 
-abbrev pub visited : Motor → Replied → Visited
-visited m r = record { motor = m; replied = r }
+abbrev pub leave : Motor → Replied → Visited
+leave m r = record { motor = m; replied = r }
 
 abbrev pub answeredAt : Answered → Visited
-answeredAt a = visited (a .motor) (moved (a .said) (a .frame) (a .result))
+answeredAt a = leave (a .motor) (moved (a .said) (a .frame) (a .result))
 
 abbrev pub heardAt : Heard → Visited
-heardAt h = visited (h .motor) (told (h .said))
+heardAt h = leave (h .motor) (told (h .said))
 
 abbrev pub removedAt : Motor → Checked → Visited
-removedAt m checked.Passed = visited freeMotor (told checked.Passed)
-removedAt m (checked.Refused r) = visited m (told (checked.Refused r))
+removedAt m checked.Passed = leave freeMotor (told checked.Passed)
+removedAt m (checked.Refused r) = leave m (told (checked.Refused r))
 
 -- a registration that is admitted has its model
 abbrev pub enteredAt : Motor → ℕ → ℕ → ModelNamed → ℕ → ℕ → Visited
-enteredAt m id host (named.Known model) wait time = visited (newMotor id host model wait time) (told checked.Passed)
-enteredAt m id host named.Unknown wait time = visited m (told (checked.Refused refusal.UnknownModel))
+enteredAt m id host (named.Known model) wait time = leave (newMotor id host model wait time) (told checked.Passed)
+enteredAt m id host named.Unknown wait time = leave m (told (checked.Refused refusal.UnknownModel))
 
 abbrev pub doneBy : Motor → Call → CanFrame → Visited
 doneBy m (call.Register id host model wait time) f = enteredAt m id host model wait time
 doneBy m (call.Start id command time) f = answeredAt (startOf m command time)
 doneBy m (call.Step id time) f = answeredAt (stepOf m time)
-doneBy m (call.Frame time) f = heardAt (heardOf m f time)
-doneBy m (call.Look id) f = visited m (reply (answer.Looked checked.Passed))
+doneBy m (call.Frame time) f = heardAt (processFeedbackFrame m f time)
+doneBy m (call.Look id) f = leave m (reply (answer.Looked checked.Passed))
 doneBy m (call.Remove id time) f = removedAt m (removalOf m time)
 
 abbrev pub visitedBy : Checked → Motor → Asked → Visited
 visitedBy checked.Passed m a = doneBy m (a .call) (a .frame)
-visitedBy (checked.Refused r) m a = visited m (refused (a .call) r)
+visitedBy (checked.Refused r) m a = leave m (refused (a .call) r)
 
-unfoldable pub visitedOf : Motor → Asked → Route → Visited
-visitedOf m a r = visitedBy (r .said) m a
+unfoldable pub visitedAt : Motor → Asked → Route → Visited
+visitedAt m a r = visitedBy (r .said) m a
 
 -- ---- the same of a quiet call: a frame that is no read reply, or a call that goes nowhere
 
-abbrev pub kept : State → Replied → Kept
-kept s r = record { state = s; replied = r }
+abbrev pub keep : State → Replied → Kept
+keep s r = record { state = s; replied = r }
 
 abbrev pub keptHeard : StateHeard → Kept
-keptHeard h = kept (h .state) (told (h .said))
+keptHeard h = keep (h .state) (told (h .said))
 
 abbrev pub keptBy : Checked → State → Asked → Kept
-keptBy checked.Passed s a = keptHeard (stateHeard s (a .frame) (timeOf (a .call)))
-keptBy (checked.Refused r) s a = kept s (refused (a .call) r)
+keptBy checked.Passed s a = keptHeard (hearState s (a .frame) (timeOf (a .call)))
+keptBy (checked.Refused r) s a = keep s (refused (a .call) r)
 
-unfoldable pub keptOf : State → Asked → Route → Kept
-keptOf s a r = keptBy (r .said) s a
+unfoldable pub keptAt : State → Asked → Route → Kept
+keptAt s a r = keptBy (r .said) s a
 
 -- ---- the same of a call that edits: a read reply
 
-unfoldable pub editedOf : Motor → Asked → Edited
-editedOf m a =
-    let h = readHeard m (a .frame) (timeOf (a .call)) in
+unfoldable pub editedAt : Motor → Asked → Edited
+editedAt m a =
+    let h = hearRead m (a .frame) (timeOf (a .call)) in
     record { state = h .state; edit = h .edit; replied = told (h .said) }
 
 -- the motor once an edit is stored
 abbrev pub editedMotor : Motor → Edited → Motor
-editedMotor m v = record { state = v .state; readings = edited (m .readings) (v .edit) }
+editedMotor m v = record { state = v .state; readings = editedBy (m .readings) (v .edit) }

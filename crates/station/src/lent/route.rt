@@ -26,7 +26,7 @@ pub struct Route {
 
 // The first place of an id among the places' ids, 8 where there is none. That of 0 is the first free place.
 fn place_in(ids: [u16; MOTORS], id: u16) -> usize
-    ensures { λ r. ⌜ r ≡ spec.indexIn ids id ⌝ }
+    ensures { λ r. ⌜ r ≡ spec.placeIn ids id ⌝ }
 {
     let mut i: usize = 0;
     while i < MOTORS {
@@ -119,7 +119,7 @@ fn route_frame(ids: [u16; MOTORS], frame: CanFrame) -> Route
 
 // Where a call goes, by the places' ids.
 pub(super) fn routed(ids: [u16; MOTORS], asked: Asked) -> Route
-    ensures { λ r. ⌜ (r ≡ spec.routeOf ids asked) × (r .at < mostMotors) ⌝ }
+    ensures { λ r. ⌜ (r ≡ spec.routedOf ids asked) × (r .at < mostMotors) ⌝ }
 {
     let call = asked.call;
     match call {

@@ -51,7 +51,7 @@ pub struct Edited {
 // ---- what is left at the place
 
 fn leave(motor: Motor, replied: Replied) -> Visited
-    ensures { λ r. ⌜ r ≡ spec.visited motor replied ⌝ }
+    ensures { λ r. ⌜ r ≡ spec.leave motor replied ⌝ }
 {
     Visited { motor, replied }
 }
@@ -123,7 +123,7 @@ fn done_at(m: Motor, asked: Asked) -> Visited
 
 // A call at its place.
 pub(super) fn visited_at(m: Motor, asked: Asked, route: Route) -> Visited
-    ensures { λ r. ⌜ r ≡ spec.visitedOf m asked route ⌝ }
+    ensures { λ r. ⌜ r ≡ spec.visitedAt m asked route ⌝ }
 {
     let said = route.said;
     let call = asked.call;
@@ -144,14 +144,14 @@ fn kept_heard(h: StateHeard) -> Kept
 }
 
 fn keep(state: State, replied: Replied) -> Kept
-    ensures { λ r. ⌜ r ≡ spec.kept state replied ⌝ }
+    ensures { λ r. ⌜ r ≡ spec.keep state replied ⌝ }
 {
     Kept { state, replied }
 }
 
 // A call at its place, where it is a frame that is no read reply, or is refused.
 pub(super) fn kept_at(s: State, asked: Asked, route: Route) -> Kept
-    ensures { λ r. ⌜ r ≡ spec.keptOf s asked route ⌝ }
+    ensures { λ r. ⌜ r ≡ spec.keptAt s asked route ⌝ }
 {
     let said = route.said;
     let call = asked.call;
@@ -165,7 +165,7 @@ pub(super) fn kept_at(s: State, asked: Asked, route: Route) -> Kept
 
 // A read reply at its place.
 pub(super) fn edited_at(m: Motor, asked: Asked) -> Edited
-    ensures { λ r. ⌜ (r ≡ spec.editedOf m asked) × (r .edit .first < mostRecords) × (r .edit .second < mostRecords) ⌝ }
+    ensures { λ r. ⌜ (r ≡ spec.editedAt m asked) × (r .edit .first < mostRecords) × (r .edit .second < mostRecords) ⌝ }
 {
     let call = asked.call;
     let h = hear_read(m, asked.frame, time_of(call));

@@ -1,5 +1,5 @@
 -- Right because each flag stands at its weight.
-use Rattle.answers.specs.Flags.{faultFlags}
+use Rattle.answers.specs.Flags.{faultFlagsText}
 use borrow.Author.Needs.{needs}
 use Rattle.answers.proofs.flags.put_fault_flags.Statement.{statement}
 use Rattle.answers.proofs.flags.put_fault_flags.Tie as tie
@@ -77,7 +77,7 @@ same-length : tie.Need-same-length
 same-length c = search needs
 
 returns : tie.Need-returns
-unfolding faultFlags
+unfolding faultFlagsText
 returns c =
     let p = c .before .before in
     let b = p .before .before .before in

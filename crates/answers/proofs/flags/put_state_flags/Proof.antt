@@ -1,5 +1,5 @@
 -- Right because each flag stands at its weight.
-use Rattle.answers.specs.Flags.{stateFlags}
+use Rattle.answers.specs.Flags.{stateFlagsText}
 use borrow.Author.Needs.{needs}
 use Rattle.answers.proofs.flags.put_state_flags.Statement.{statement}
 use Rattle.answers.proofs.flags.put_state_flags.Tie as tie
@@ -47,7 +47,7 @@ same-length : tie.Need-same-length
 same-length c = search needs
 
 returns : tie.Need-returns
-unfolding stateFlags
+unfolding stateFlagsText
 returns c =
     let p = c .before .before in
     let b = p .before .before .before in

@@ -1,5 +1,5 @@
 -- Right because each flag stands at its weight.
-use Rattle.answers.specs.Flags.{warningFlags}
+use Rattle.answers.specs.Flags.{warningFlagsText}
 use borrow.Author.Needs.{needs}
 use Rattle.answers.proofs.flags.put_warning_flags.Statement.{statement}
 use Rattle.answers.proofs.flags.put_warning_flags.Tie as tie
@@ -17,7 +17,7 @@ same-length : tie.Need-same-length
 same-length c = search needs
 
 returns : tie.Need-returns
-unfolding warningFlags
+unfolding warningFlagsText
 returns c =
     let p = c .before .before in
     let b = p .before .before .before in

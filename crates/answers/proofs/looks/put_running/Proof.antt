@@ -5,8 +5,8 @@ use borrow.Author.Needs.{needs}
 use Rattle.answers.proofs.looks.put_running.Statement.{statement}
 use Rattle.answers.proofs.looks.put_running.Tie as tie
 
-is-none-requires : tie.Need-is-none-requires
-is-none-requires c κs = search needs
+is-idle-requires : tie.Need-is-idle-requires
+is-idle-requires c κs = search needs
 
 slice-aggregate-put-bytes : tie.Need-slice-aggregate-put-bytes
 slice-aggregate-put-bytes c = search needs
@@ -19,7 +19,7 @@ same-length c = search needs
 
 returns : tie.Need-returns
 unfolding runningText
-returns c = rw (← c .before .before .before .before .before .before .is-none .ensures, c .before .before .before .before .before .if1 .taken) (c .before .before .put-bytes .ensures)
+returns c = rw (← c .before .before .before .before .before .before .is-idle .ensures, c .before .before .before .before .before .if1 .taken) (c .before .before .put-bytes .ensures)
 
 slice-aggregate-put-bytes-2 : tie.Need-slice-aggregate-put-bytes-2
 slice-aggregate-put-bytes-2 c = search needs
@@ -48,13 +48,13 @@ returns-2 c =
     let p1 = c .before .before in
     let p2 = p1 .before .before .before .before .before .before in
     let p3 = p2 .before .before .before .before in
-    rw (← c .before .before .before .before .before .before .before .before .before .before .before .before .before .before .before .before .is-none .ensures, c .before .before .before .before .before .before .before .before .before .before .before .before .before .before .before .if1 .left) (put-then (put-then (p3 .put-bytes2 .ensures) (p2 .put-command .ensures)) (p1 .put-line .ensures))
+    rw (← c .before .before .before .before .before .before .before .before .before .before .before .before .before .before .before .before .is-idle .ensures, c .before .before .before .before .before .before .before .before .before .before .before .before .before .before .before .if1 .left) (put-then (put-then (p3 .put-bytes2 .ensures) (p2 .put-command .ensures)) (p1 .put-line .ensures))
 
 pub put-running-spec : {M : Type 1} → statement M
 put-running-spec =
     tie.close
     (tie.spec
-    is-none-requires
+    is-idle-requires
     slice-aggregate-put-bytes
     put-bytes-requires
     same-length

@@ -1,7 +1,7 @@
 -- Right because the pieces are put one after another.
 use mathlib.Core.Path.{_∙_}
 use Rattle.text.proofs.Putting.{put-then}
-use Rattle.answers.specs.Looks.{heldText}
+use Rattle.answers.specs.Looks.{stateText}
 use borrow.Author.Needs.{needs}
 use Rattle.answers.proofs.looks.put_state.Statement.{statement}
 use Rattle.answers.proofs.looks.put_state.Tie as tie
@@ -65,7 +65,7 @@ same-length c =
     p1 .put-running .ensures .same ∙ p2 .put-gains .ensures .same ∙ p3 .put-held-ping .ensures .same ∙ p4 .put-fault .ensures .same ∙ p5 .put-feedback .ensures .same ∙ p6 .put-line3 .ensures .same ∙ p7 .put-line2 .ensures .same ∙ p8 .put-line .ensures .same ∙ p9 .put-motor .ensures .same
 
 returns : tie.Need-returns
-unfolding heldText
+unfolding stateText
 returns c =
     let p1 = c .before .before in
     let p2 = p1 .before .before .before .before .before in

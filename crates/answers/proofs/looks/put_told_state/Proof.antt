@@ -1,6 +1,6 @@
 -- Right because the word and then the numbers are put.
 use Rattle.text.proofs.Putting.{put-then}
-use Rattle.answers.specs.Looks.{stateText}
+use Rattle.answers.specs.Looks.{toldStateText}
 use borrow.Author.Needs.{needs}
 use Rattle.answers.proofs.looks.put_told_state.Statement.{statement}
 use Rattle.answers.proofs.looks.put_told_state.Tie as tie
@@ -54,7 +54,7 @@ same-length : tie.Need-same-length
 same-length c = search needs
 
 returns : tie.Need-returns
-unfolding stateText
+unfolding toldStateText
 returns c =
     let p1 = c .before .before in
     let p2 = p1 .before .before .before .before .before .before .before .before .before .before .before .before in

@@ -4,14 +4,14 @@ use borrow.Author.Needs.{needs}
 use Rattle.bytes.specs.Bytes.{indexOf, indexAfter}
 use Rattle.codec.specs.declared.model.Model.{Model}
 use Rattle.codec.specs.declared.model.Model.the-variants as model
-use Rattle.codec.specs.Models.{nameOf}
+use Rattle.codec.specs.Models.{modelText}
 use Rattle.text.specs.Ascii.{ascii}
 use Rattle.text.specs.Words.{wordAt}
 use Rattle.answers.specs.Names.{modelPlace}
 use Rattle.answers.proofs.names.put_model.Statement.{statement}
 use Rattle.answers.proofs.names.put_model.Tie as tie
 
-named : (m : Model) → wordAt (ascii "rs-00 rs-01 rs-02 rs-03 rs-04 rs-05 rs-05el rs-06") (modelPlace m) ≡ nameOf m
+named : (m : Model) → wordAt (ascii "rs-00 rs-01 rs-02 rs-03 rs-04 rs-05 rs-05el rs-06") (modelPlace m) ≡ modelText m
 unfolding modelPlace wordAt indexOf indexAfter
 named model.Rs00 = refl
 named model.Rs01 = refl

@@ -8,7 +8,7 @@ use Rattle.codec.specs.declared.error.Refusal.{Refusal}
 use Rattle.codec.specs.declared.error.Refusal.the-variants as refusal
 use Rattle.codec.proofs.error.Refusal.{the-type}
 use Rattle.text.proofs.Putting.{put-nil}
-use Rattle.answers.specs.Said.{carried, carriedText}
+use Rattle.answers.specs.Said.{carriedText, valuesText}
 use borrow.Author.Needs.{needs}
 use Rattle.answers.proofs.said.put_carried.Statement.{statement}
 use Rattle.answers.proofs.said.put_carried.Tie as tie
@@ -17,8 +17,8 @@ use Rattle.answers.proofs.said.put_carried.Tie as tie
 abbrev bare : List ℕ
 bare = 0 ∷ 1 ∷ 2 ∷ 3 ∷ 4 ∷ 5 ∷ 6 ∷ 7 ∷ 8 ∷ 9 ∷ 10 ∷ 11 ∷ 12 ∷ 14 ∷ 15 ∷ 16 ∷ 18 ∷ 19 ∷ 20 ∷ 21 ∷ 22 ∷ []
 
-bare-text : (r : Refusal) → OneOf bare (tagOf the-type r) → carried r ≡ []
-unfolding carriedText
+bare-text : (r : Refusal) → OneOf bare (tagOf the-type r) → carriedText r ≡ []
+unfolding valuesText
 bare-text refusal.MotorIdOutOfRange h = refl
 bare-text refusal.HostIdOutOfRange h = refl
 bare-text refusal.UnknownModel h = refl
@@ -59,14 +59,14 @@ same-length : tie.Need-same-length
 same-length c = search needs
 
 returns : tie.Need-returns
-unfolding carriedText
+unfolding valuesText
 returns c = rw (c .before .before .before .before .before .refusal .given .1) (c .before .before .put-read-failed .ensures)
 
 same-length-2 : tie.Need-same-length-2
 same-length-2 c = search needs
 
 returns-2 : tie.Need-returns-2
-unfolding carriedText
+unfolding valuesText
 returns-2 c = rw (c .before .before .before .before .before .refusal2 .given .1) (c .before .before .put-last .ensures)
 
 returns-3 : tie.Need-returns-3

@@ -17,8 +17,8 @@ put-hex-requires c κs = search needs
 put-byte-requires : tie.Need-put-byte-requires
 put-byte-requires c κs = search needs
 
-number-of-requires : tie.Need-number-of-requires
-number-of-requires c κs = search needs
+payload-number-requires : tie.Need-payload-number-requires
+payload-number-requires c κs = search needs
 
 put-hex-requires-2 : tie.Need-put-hex-requires-2
 put-hex-requires-2 c κs = search needs
@@ -37,7 +37,7 @@ returns c =
     let p3 = p2 .before .before .before .before .before .before in
     let p4 = p3 .before .before .before .before in
     let p5 = p4 .before .before .before .before .before in
-    put-then (put-then (put-then (put-then (p5 .put-stamp .ensures) (p4 .put-hex .ensures)) (p3 .put-byte .ensures)) (rw (p2 .before .number-of .ensures) at (p2 .put-hex2 .ensures))) (p1 .put-byte2 .ensures)
+    put-then (put-then (put-then (put-then (p5 .put-stamp .ensures) (p4 .put-hex .ensures)) (p3 .put-byte .ensures)) (rw (p2 .before .payload-number .ensures) at (p2 .put-hex2 .ensures))) (p1 .put-byte2 .ensures)
 
 pub put-frame-spec : {M : Type 1} → statement M
 put-frame-spec =
@@ -47,7 +47,7 @@ put-frame-spec =
     cast-put-hex
     put-hex-requires
     put-byte-requires
-    number-of-requires
+    payload-number-requires
     put-hex-requires-2
     put-byte-requires-2
     same-length

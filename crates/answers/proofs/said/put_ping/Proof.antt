@@ -5,8 +5,8 @@ use borrow.Author.Needs.{needs}
 use Rattle.answers.proofs.said.put_ping.Statement.{statement}
 use Rattle.answers.proofs.said.put_ping.Tie as tie
 
-number-of-requires : tie.Need-number-of-requires
-number-of-requires c κs = search needs
+payload-number-requires : tie.Need-payload-number-requires
+payload-number-requires c κs = search needs
 
 slice-aggregate-put-bytes : tie.Need-slice-aggregate-put-bytes
 slice-aggregate-put-bytes c = search needs
@@ -28,13 +28,13 @@ unfolding pingText
 returns c =
     let p1 = c .before .before in
     let p2 = p1 .before .before .before .before .before in
-    put-then (p2 .put-bytes .ensures) (rw (p2 .before .before .before .number-of .ensures) at (p1 .put-fields .ensures))
+    put-then (p2 .put-bytes .ensures) (rw (p2 .before .before .before .payload-number .ensures) at (p1 .put-fields .ensures))
 
 pub put-ping-spec : {M : Type 1} → statement M
 put-ping-spec =
     tie.close
     (tie.spec
-    number-of-requires
+    payload-number-requires
     slice-aggregate-put-bytes
     put-bytes-requires
     slice-aggregate-put-fields

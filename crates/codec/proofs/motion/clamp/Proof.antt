@@ -1,18 +1,18 @@
 -- Right because the two tests are the definition's, in its order.
-use Rattle.codec.specs.Motion.{clamped}
+use Rattle.codec.specs.Motion.{clamp}
 use Rattle.codec.proofs.motion.clamp.Statement.{statement}
 use Rattle.codec.proofs.motion.clamp.Tie as tie
 
 returns : tie.Need-returns
-unfolding clamped
+unfolding clamp
 returns c = rw (c .if1 .taken)
 
 returns-2 : tie.Need-returns-2
-unfolding clamped
+unfolding clamp
 returns-2 c = rw (c .before .if1 .left, c .if2 .taken)
 
 returns-3 : tie.Need-returns-3
-unfolding clamped
+unfolding clamp
 returns-3 c = rw (c .before .if1 .left, c .if2 .left)
 
 pub clamp-spec : {M : Type 1} → statement M

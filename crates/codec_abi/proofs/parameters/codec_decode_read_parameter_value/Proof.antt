@@ -9,8 +9,8 @@ payload-of-requires c κs = search needs
 decode-read-parameter-value-requires : tie.Need-decode-read-parameter-value-requires
 decode-read-parameter-value-requires c κs = search needs
 
-bits-of-requires : tie.Need-bits-of-requires
-bits-of-requires c κs = search needs
+raw-of-requires : tie.Need-raw-of-requires
+raw-of-requires c κs = search needs
 
 kind-in-requires : tie.Need-kind-in-requires
 kind-in-requires c κs = search needs
@@ -20,7 +20,7 @@ returns c =
     let p1 = c .before in
     let p2 = p1 .before in
     let p3 = p2 .before in
-    (rw (c .kind-in .ensures, p2 .decode-read-parameter-value .ensures, p3 .payload-of .ensures), rw (p1 .bits-of .ensures, p2 .decode-read-parameter-value .ensures, p3 .payload-of .ensures))
+    (rw (c .kind-in .ensures, p2 .decode-read-parameter-value .ensures, p3 .payload-of .ensures), rw (p1 .raw-of .ensures, p2 .decode-read-parameter-value .ensures, p3 .payload-of .ensures))
 
 pub codec-decode-read-parameter-value-spec : {M : Type 1} → statement M
 codec-decode-read-parameter-value-spec =
@@ -28,6 +28,6 @@ codec-decode-read-parameter-value-spec =
     (tie.spec
     payload-of-requires
     decode-read-parameter-value-requires
-    bits-of-requires
+    raw-of-requires
     kind-in-requires
     returns)

@@ -7,11 +7,11 @@ use mathlib.Core.Path.{_≡_, refl, ap, _∙_}
 use borrow.Author.Needs.{needs}
 use Rattle.codec.specs.declared.registers.ControlMode.the-variants.{Mit, Position, Velocity, PositionCsp}
 use Rattle.codec.specs.declared.registers.ControlMode.{ControlMode}
-use Rattle.codec.specs.Modes.{modeRead, modeNumber}
+use Rattle.codec.specs.Modes.{controlModeFromRaw, controlModeNumber}
 use Rattle.codec_abi.proofs.parameters.codec_mode_from_raw.Statement.{statement}
 use Rattle.codec_abi.proofs.parameters.codec_mode_from_raw.Tie as tie
 
-kept : (m : ControlMode) → ofZ w8 (toZ w8 (ofZ w8 (modeNumber m))) ≡ ofZ w8 (modeNumber m)
+kept : (m : ControlMode) → ofZ w8 (toZ w8 (ofZ w8 (controlModeNumber m))) ≡ ofZ w8 (controlModeNumber m)
 kept Mit = refl
 kept Position = refl
 kept Velocity = refl
@@ -50,14 +50,14 @@ returns c =
     let p2 = p1 .before .before in
     let p3 = p2 .before .before in
     let p4 = p3 .before in
-    rw (← (p3 .from-raw .ensures ∙ ap modeRead (toZ-ofZ (p4 .fits .value))), p2 .mode .given .1) (c .byte-of .ensures ∙ ap (λ (z : ℤ). ofZ w8 (toZ w8 (ofZ w8 z))) (p1 .number .ensures) ∙ kept (p2 .mode .given .0 .0))
+    rw (← (p3 .from-raw .ensures ∙ ap controlModeFromRaw (toZ-ofZ (p4 .fits .value))), p2 .mode .given .1) (c .byte-of .ensures ∙ ap (λ (z : ℤ). ofZ w8 (toZ w8 (ofZ w8 z))) (p1 .number .ensures) ∙ kept (p2 .mode .given .0 .0))
 
 returns-2 : tie.Need-returns-2
 returns-2 c =
     let p1 = c .before .before in
     let p2 = p1 .before .before in
     let p3 = p2 .before in
-    rw (← (p2 .from-raw .ensures ∙ ap modeRead (toZ-ofZ (p3 .fits .value))), p1 .refusal .given .1, ← c .number2 .ensures)
+    rw (← (p2 .from-raw .ensures ∙ ap controlModeFromRaw (toZ-ofZ (p3 .fits .value))), p1 .refusal .given .1, ← c .number2 .ensures)
 
 pub codec-mode-from-raw-spec : {M : Type 1} → statement M
 codec-mode-from-raw-spec =

@@ -2,7 +2,7 @@
 use native.Mathlib.Omega.{arith}
 use borrow.Author.Tests.{not-true, not-false, eq-eqb, ne-eqb}
 use mathlib.Core.Path.{refl, sym, _∙_}
-use Rattle.motor.specs.Edits.{readHeard}
+use Rattle.motor.specs.Edits.{hearRead}
 use borrow.Author.Needs.{needs}
 use Rattle.motor.proofs.edits.hear_read.Statement.{statement}
 use Rattle.motor.proofs.edits.hear_read.Tie as tie
@@ -14,7 +14,7 @@ read-kept-requires : tie.Need-read-kept-requires
 read-kept-requires c κs = search needs
 
 returns : tie.Need-returns
-unfolding readHeard
+unfolding hearRead
 returns c = let a = c .before .before in
     rw (sym (a .accepts-frame .ensures) ∙ not-true (a .accepts-frame .result) (c .before .if1 .taken), c .read-kept .ensures) (refl, omega arith, omega arith)
 
@@ -25,7 +25,7 @@ read-kept-requires-2 : tie.Need-read-kept-requires-2
 read-kept-requires-2 c κs = search needs
 
 returns-2 : tie.Need-returns-2
-unfolding readHeard
+unfolding hearRead
 returns-2 c = let l = c .before .before in
     let a = l .before .before in
     rw (sym (a .accepts-frame .ensures) ∙ not-false (a .accepts-frame .result) (l .before .if1 .left), sym (l .is-late .ensures) ∙ c .before .if2 .taken, c .read-kept2 .ensures) (refl, omega arith, omega arith)
@@ -43,7 +43,7 @@ read-kept-requires-3 : tie.Need-read-kept-requires-3
 read-kept-requires-3 c κs = search needs
 
 returns-3 : tie.Need-returns-3
-unfolding readHeard
+unfolding hearRead
 returns-3 c = let k = c .before .before in
     let l = k .before .before .before .before in
     let a = l .before .before in
@@ -74,7 +74,7 @@ read-kept-requires-4 : tie.Need-read-kept-requires-4
 read-kept-requires-4 c κs = search needs
 
 returns-4 : tie.Need-returns-4
-unfolding readHeard
+unfolding hearRead
 returns-4 c = let p = c .before .before .before in
     let k = p .before .before .before in
     let l = k .before .before .before .before in
@@ -93,7 +93,7 @@ returns-4 c = let p = c .before .before .before in
     (refl, p .put-edit .ensures .1, p .put-edit .ensures .2)
 
 returns-5 : tie.Need-returns-5
-unfolding readHeard
+unfolding hearRead
 returns-5 c = let p = c .before .before .before .before in
     let k = p .before .before .before in
     let l = k .before .before .before .before in

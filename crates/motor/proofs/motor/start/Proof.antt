@@ -1,7 +1,7 @@
 -- Right because the tests decide, then the first node is entered; its meaning is start-both.
 use Rattle.motor.proofs.LoneOperating.{start-both}
-use Rattle.motor.specs.Motors.{movedOf, startBy}
-use Rattle.motor.specs.engine.Run.{begin}
+use Rattle.motor.specs.Motors.{movedBy, startBy}
+use Rattle.motor.specs.engine.Run.{begunBy}
 use Rattle.motor.specs.declared.engine.operation.Sight.{Sight}
 use Rattle.codec.specs.declared.error.Checked.{Checked}
 use Rattle.motor.proofs.InTime.{start-in-time, made}
@@ -38,7 +38,7 @@ returns c = let a = c .before .before .before .before .before .before .before .b
     let soon = start-in-time (a .m .state .clock) (a .m .state .operation .phase) (a .command) (a .now) passed in
     start-both (a .m) (a .command) (a .now) _
     (c .moved-by .ensures
-    ∙ ap (movedOf (a .m) (a .now) (a .command)) (c .before .begin-at .ensures ∙ made (a .now) (begin (s .sight-of .result) (a .now) (a .command)) soon ∙ ap (λ (x : Sight). begin x (a .now) (a .command)) (s .sight-of .ensures))
+    ∙ ap (movedBy (a .m) (a .now) (a .command)) (c .before .begin-at .ensures ∙ made (a .now) (begunBy (s .sight-of .result) (a .now) (a .command)) soon ∙ ap (λ (x : Sight). begunBy x (a .now) (a .command)) (s .sight-of .ensures))
     ∙ sym (ap (λ (k : Checked). startBy k (a .m) (a .command) (a .now)) passed))
 
 returns-2 : tie.Need-returns-2

@@ -1,8 +1,8 @@
 -- Right because the tests decide, then the operation goes on; its meaning is step-both.
 use Rattle.motor.proofs.LoneOperating.{step-both}
-use Rattle.motor.specs.Motors.{movedOf, stepBy}
+use Rattle.motor.specs.Motors.{movedBy, stepBy}
 use Rattle.motor.specs.Calls.{sightOf}
-use Rattle.motor.specs.engine.Run.{advance}
+use Rattle.motor.specs.engine.Run.{advanced}
 use Rattle.motor.specs.declared.engine.reading.Found.{Found}
 use Rattle.motor.specs.declared.engine.operation.Sight.{Sight}
 use Rattle.codec.specs.declared.error.Checked.{Checked}
@@ -45,11 +45,11 @@ returns c = let a = c .before .before .before .before .before .before .before .b
     let soon = step-in-time (state .clock) (op .phase) (a .now) passed in
     step-both (a .m) (a .now) _
     (c .moved-by .ensures
-    ∙ ap (movedOf (a .m) (a .now) (state .command))
+    ∙ ap (movedBy (a .m) (a .now) (state .command))
     (c .before .advance-at .ensures
-    ∙ made (a .now) (advance (s .sight-of .result) (a .now) op (s .before .wanted-at .result) (op .phase)) soon
-    ∙ ap (λ (x : Sight). advance x (a .now) op (s .before .wanted-at .result) (op .phase)) (s .sight-of .ensures)
-    ∙ ap (λ (f : Found). advance (sightOf state) (a .now) op f (op .phase)) (s .before .wanted-at .ensures))
+    ∙ made (a .now) (advanced (s .sight-of .result) (a .now) op (s .before .wanted-at .result) (op .phase)) soon
+    ∙ ap (λ (x : Sight). advanced x (a .now) op (s .before .wanted-at .result) (op .phase)) (s .sight-of .ensures)
+    ∙ ap (λ (f : Found). advanced (sightOf state) (a .now) op f (op .phase)) (s .before .wanted-at .ensures))
     ∙ sym (ap (λ (k : Checked). stepBy k (a .m) (a .now)) passed))
 
 returns-2 : tie.Need-returns-2

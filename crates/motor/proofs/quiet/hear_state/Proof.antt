@@ -2,7 +2,7 @@
 use borrow.Author.Tests.{not-true, not-false}
 use borrow.Author.Needs.{needs}
 use mathlib.Core.Path.{sym, _∙_}
-use Rattle.motor.specs.Receive.{stateHeard}
+use Rattle.motor.specs.Receive.{hearState}
 use Rattle.motor.proofs.quiet.hear_state.Statement.{statement}
 use Rattle.motor.proofs.quiet.hear_state.Tie as tie
 
@@ -13,7 +13,7 @@ state-heard-requires : tie.Need-state-heard-requires
 state-heard-requires c κs = search needs
 
 returns : tie.Need-returns
-unfolding stateHeard
+unfolding hearState
 returns c = let a = c .before .before in
     rw (sym (a .accepts-frame .ensures) ∙ not-true (a .accepts-frame .result) (c .before .if1 .taken)) (c .state-heard .ensures)
 
@@ -24,7 +24,7 @@ state-heard-requires-2 : tie.Need-state-heard-requires-2
 state-heard-requires-2 c κs = search needs
 
 returns-2 : tie.Need-returns-2
-unfolding stateHeard
+unfolding hearState
 returns-2 c = let l = c .before .before in
     let a = l .before .before in
     rw (sym (a .accepts-frame .ensures) ∙ not-false (a .accepts-frame .result) (l .before .if1 .left), sym (l .is-late .ensures) ∙ c .before .if2 .taken) (c .state-heard2 .ensures)
@@ -39,7 +39,7 @@ state-heard-requires-3 : tie.Need-state-heard-requires-3
 state-heard-requires-3 c κs = search needs
 
 returns-3 : tie.Need-returns-3
-unfolding stateHeard
+unfolding hearState
 returns-3 c = let l = c .before .before .before .before in
     let a = l .before .before in
     rw (sym (a .accepts-frame .ensures) ∙ not-false (a .accepts-frame .result) (l .before .if1 .left), sym (l .is-late .ensures) ∙ c .before .before .before .if2 .left, ← c .before .before .counted-at .ensures, ← c .before .told-by .ensures) (c .state-heard3 .ensures)

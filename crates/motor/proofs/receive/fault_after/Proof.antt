@@ -5,12 +5,12 @@ use Rattle.motor.specs.Receive.{faultAfter}
 use Rattle.motor.proofs.receive.fault_after.Statement.{statement}
 use Rattle.motor.proofs.receive.fault_after.Tie as tie
 
-type-of-requires : tie.Need-type-of-requires
-type-of-requires c κs = search needs
+frame-type-requires : tie.Need-frame-type-requires
+frame-type-requires c κs = search needs
 
 returns : tie.Need-returns
 unfolding faultAfter
-returns c = rw (← c .before .type-of .ensures, ne-eqb _ _ (c .if1 .taken))
+returns c = rw (← c .before .frame-type .ensures, ne-eqb _ _ (c .if1 .taken))
 
 decode-fault-report-requires : tie.Need-decode-fault-report-requires
 decode-fault-report-requires c κs = search needs
@@ -18,8 +18,8 @@ decode-fault-report-requires c κs = search needs
 returns-2 : tie.Need-returns-2
 unfolding faultAfter
 returns-2 c = let b = c .before .before in
-    rw (c .decode-fault-report .ensures, ← b .before .type-of .ensures, eq-eqb _ _ (b .if1 .left))
+    rw (c .decode-fault-report .ensures, ← b .before .frame-type .ensures, eq-eqb _ _ (b .if1 .left))
 
 pub fault-after-spec : {M : Type 1} → statement M
 fault-after-spec =
-    tie.close (tie.spec type-of-requires returns decode-fault-report-requires returns-2)
+    tie.close (tie.spec frame-type-requires returns decode-fault-report-requires returns-2)

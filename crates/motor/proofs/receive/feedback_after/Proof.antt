@@ -5,8 +5,8 @@ use Rattle.motor.specs.Receive.{feedbackAfter}
 use Rattle.motor.proofs.receive.feedback_after.Statement.{statement}
 use Rattle.motor.proofs.receive.feedback_after.Tie as tie
 
-type-of-requires : tie.Need-type-of-requires
-type-of-requires c κs = search needs
+frame-type-requires : tie.Need-frame-type-requires
+frame-type-requires c κs = search needs
 
 tells-status-requires : tie.Need-tells-status-requires
 tells-status-requires c κs = search needs
@@ -14,7 +14,7 @@ tells-status-requires c κs = search needs
 returns : tie.Need-returns
 unfolding feedbackAfter
 returns c = let t = c .before in
-    rw (← t .before .type-of .ensures, ← t .tells-status .ensures, not-true (t .tells-status .result) (c .if1 .taken))
+    rw (← t .before .frame-type .ensures, ← t .tells-status .ensures, not-true (t .tells-status .result) (c .if1 .taken))
 
 feedback-in-requires : tie.Need-feedback-in-requires
 feedback-in-requires c κs = search needs
@@ -25,13 +25,13 @@ update-requires c κs = search needs
 returns-2 : tie.Need-returns-2
 unfolding feedbackAfter
 returns-2 c = let t = c .before .before .before in
-    rw (c .update .ensures, c .before .feedback-in .ensures, ← t .before .type-of .ensures, ← t .tells-status .ensures, not-false (t .tells-status .result) (c .before .before .if1 .left))
+    rw (c .update .ensures, c .before .feedback-in .ensures, ← t .before .frame-type .ensures, ← t .tells-status .ensures, not-false (t .tells-status .result) (c .before .before .if1 .left))
 
 pub feedback-after-spec : {M : Type 1} → statement M
 feedback-after-spec =
     tie.close
     (tie.spec
-    type-of-requires
+    frame-type-requires
     tells-status-requires
     returns
     feedback-in-requires

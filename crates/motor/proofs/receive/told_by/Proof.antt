@@ -1,6 +1,6 @@
 -- Right because each field is what its function promises.
 use borrow.Author.Needs.{needs}
-use Rattle.motor.specs.Receive.{told}
+use Rattle.motor.specs.Receive.{toldBy}
 use Rattle.motor.proofs.receive.told_by.Statement.{statement}
 use Rattle.motor.proofs.receive.told_by.Tie as tie
 
@@ -14,7 +14,7 @@ ping-after-requires : tie.Need-ping-after-requires
 ping-after-requires c κs = search needs
 
 returns : tie.Need-returns
-unfolding told
+unfolding toldBy
 returns c = rw (c .before .before .before .before .feedback-after .ensures, c .before .before .before .fault-after .ensures, c .before .before .ping-after .ensures)
 
 pub told-by-spec : {M : Type 1} → statement M

@@ -19,7 +19,7 @@ use denote.Triple.Statement.{Triple}
 use denote.Triple.Spec.{Meets, tripleOf}
 use denote.Triple.Table.{entered, cited}
 use denote.Triple.Clauses.{lasts}
-use Rattle.motor.specs.Receive.{heardOf}
+use Rattle.motor.specs.Receive.{processFeedbackFrame}
 use Rattle.motor.specs.declared.motor.Motor.{Motor}
 use Rattle.motor.specs.declared.receive.Heard.{Heard}
 use Rattle.codec.specs.declared.bus.CanFrame.{CanFrame}
@@ -62,7 +62,7 @@ answers 𝓤 H A W = record {
 }
 
 -- the code is that of a thin function
-code-is : code.function ≡ walk.code motor frame time said heard-type.the-row (heard-type.the-type .name) (λ r. r .motor) (λ r. r .said) heardOf callee-def.name
+code-is : code.function ≡ walk.code motor frame time said heard-type.the-row (heard-type.the-type .name) (λ r. r .motor) (λ r. r .said) processFeedbackFrame callee-def.name
 code-is = refl
 
 module _ {M : Type 1} (𝓤 : URA M) (H : Heap 𝓤) (A : Atoms 𝓤) (at-mem : Memory → SProp 𝓤) (run : Routine → Fun 𝓤) where
@@ -73,23 +73,23 @@ module _ {M : Type 1} (𝓤 : URA M) (H : Heap 𝓤) (A : Atoms 𝓤) (at-mem : 
   abbrev means : Motor → CanFrame → ℕ → Heard → SProp 𝓤
   means m f t r = callee.ensures-means 𝓤 H tt A at-mem run m f t (record { entry = m; exit = m }) (record { entry = f; exit = f }) (record { entry = t; exit = t }) r
 
-  is-heard : (m : Motor) (f : CanFrame) (t : ℕ) (r : Heard) → ent 𝓤 (answered m f t r) (fact 𝓤 (r ≡ heardOf m f t))
+  is-heard : (m : Motor) (f : CanFrame) (t : ℕ) (r : Heard) → ent 𝓤 (answered m f t r) (fact 𝓤 (r ≡ processFeedbackFrame m f t))
   is-heard m f t r =
-      exE 𝓤 _ (λ ws. via 𝓤 (sep 𝓤 (fact 𝓤 (r ≡ heardOf m f t)) (means m f t r)) (snd∗ 𝓤 (sem 𝓤 H A (lasts callee.ended tt (m, (f, (t, tt))) ws)) _)
-      (fst∗ 𝓤 (fact 𝓤 (r ≡ heardOf m f t)) (means m f t r)))
+      exE 𝓤 _ (λ ws. via 𝓤 (sep 𝓤 (fact 𝓤 (r ≡ processFeedbackFrame m f t)) (means m f t r)) (snd∗ 𝓤 (sem 𝓤 H A (lasts callee.ended tt (m, (f, (t, tt))) ws)) _)
+      (fst∗ 𝓤 (fact 𝓤 (r ≡ processFeedbackFrame m f t)) (means m f t r)))
 
   -- what the thin function promises: it holds of the two parts of that result
   abbrev promised : Lfts 1 → RefT Motor → CanFrame → ℕ → Checked → RefT Motor → SProp 𝓤
   promised κs m f t said exit = thin.clauses 𝓤 H A at-mem run κs (m, (f, (t, tt))) .ensures tt said (exit, (f, (t, tt)))
 
-  holds : (κs : Lfts 1) (m : RefT Motor) (f : CanFrame) (t : ℕ) (r : Heard) → r ≡ heardOf (now m) f t → ent 𝓤 (emp 𝓤) (promised κs m f t (r .said) (at-last m (r .motor)))
+  holds : (κs : Lfts 1) (m : RefT Motor) (f : CanFrame) (t : ℕ) (r : Heard) → r ≡ processFeedbackFrame (now m) f t → ent 𝓤 (emp 𝓤) (promised κs m f t (r .said) (at-last m (r .motor)))
   holds κs m f t r e = factI 𝓤 _ (emp 𝓤) (ap (λ (z : Heard). z .said) e, ap (λ (z : Heard). z .motor) e)
 
   meets : Given 𝓤 H A → (𝓣 : Tables 𝓤 H) → Triple 𝓤 (𝓣 .C callee-def.name) (tripleOf 𝓤 H A callee.signature (callee.spec 𝓤 H A at-mem run))
       → Meets 𝓤 H A thin.signature (WpFn 𝓤 H (𝓣 .C) (𝓣 .Λ) code.function) (thin.spec 𝓤 H A at-mem run)
   meets W 𝓣 known =
       subst (λ (f : Fn). Meets 𝓤 H A thin.signature (WpFn 𝓤 H (𝓣 .C) (𝓣 .Λ) f) (thin.spec 𝓤 H A at-mem run)) (sym code-is)
-      (walk.meets motor frame time said heard-type.the-row (heard-type.the-type .name) (λ r. r .motor) (λ r. r .said) heardOf 𝓤 H A promised answered W is-heard
+      (walk.meets motor frame time said heard-type.the-row (heard-type.the-type .name) (λ r. r .motor) (λ r. r .said) processFeedbackFrame 𝓤 H A promised answered W is-heard
       (walk.struct-known 𝓤 H A W motor-type.the-type motor-laws.the-laws motor-laws.the-plain) (walk.struct-known 𝓤 H A W frame-type.the-type frame-laws.the-laws frame-laws.the-plain) (walk.uint-known 𝓤 H A W w64) (walk.enum-known 𝓤 H A W said-type.the-type said-laws.the-laws tt said-laws.the-plain)
       (answers 𝓤 H A W) holds callee-def.name 𝓣 known)
 

@@ -164,9 +164,10 @@ abbrev Left : Station → List ℕ → Station → List ℕ → Type 0
 Left st ln after text = (after ≡ stationAfterLine st ln) × (text ≡ textAfterLine st ln)
 
 by-event : (st : Station) (ln : List ℕ) (l : Line) (e : Event) → l ≡ lineSays ln → l .event ≡ e → (after : Station) (text : List ℕ) → after ≡ stationAfter st e (l .frame) → text ≡ textAfter st e (l .frame) → Left st ln after text
-by-event st ln l e is p after text a t =
-    (a ∙ ap (λ (x : Event). stationAfter st x (l .frame)) (sym p) ∙ ap (λ (x : Line). stationAfter st (x .event) (x .frame)) is,
-     t ∙ ap (λ (x : Event). textAfter st x (l .frame)) (sym p) ∙ ap (λ (x : Line). textAfter st (x .event) (x .frame)) is)
+by-event st ln l e is p after text a t = (
+  a ∙ ap (λ (x : Event). stationAfter st x (l .frame)) (sym p) ∙ ap (λ (x : Line). stationAfter st (x .event) (x .frame)) is,
+  t ∙ ap (λ (x : Event). textAfter st x (l .frame)) (sym p) ∙ ap (λ (x : Line). textAfter st (x .event) (x .frame)) is,
+)
 
 holds-asks : (h : List Motor) (xs : List ℕ) (n : ℕ) (ys : List ℕ) (c : Cursor) (l : Line) (k : Call) (y : Replied) (z : List Motor) (r : Cursor) (zs : List ℕ)
     → Says xs c l → l .event ≡ event.Call k → NotLook k → Called h (asked k (l .frame)) y z → Replies y k xs n ys c r zs → Promised h xs n ys c r z zs

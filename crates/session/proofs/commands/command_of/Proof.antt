@@ -1,6 +1,6 @@
 -- Right because each arm is the definition's, its arguments cut to their widths.
 use borrow.Author.Tests.{ne-eqb}
-use Rattle.session.specs.Commands.{commandAt}
+use Rattle.session.specs.Commands.{commandOf}
 use borrow.Author.Needs.{needs}
 use Rattle.session.proofs.commands.command_of.Statement.{statement}
 use Rattle.session.proofs.commands.command_of.Tie as tie
@@ -54,43 +54,43 @@ driven-requires : tie.Need-driven-requires
 driven-requires c κs = search needs
 
 returns : tie.Need-returns
-unfolding commandAt
+unfolding commandOf
 returns c = rw (c .match .keys1)
 
 returns-2 : tie.Need-returns-2
-unfolding commandAt
+unfolding commandOf
 returns-2 c = rw (c .before .match .keys2, c .low16 .ensures)
 
 returns-3 : tie.Need-returns-3
-unfolding commandAt
+unfolding commandOf
 returns-3 c = rw (c .before .match .keys3, c .mode-of .ensures)
 
 returns-4 : tie.Need-returns-4
-unfolding commandAt
+unfolding commandOf
 returns-4 c = rw (c .before .match .keys4, c .mode-of2 .ensures)
 
 returns-5 : tie.Need-returns-5
-unfolding commandAt
+unfolding commandOf
 returns-5 c = rw (c .match .keys5)
 
 returns-6 : tie.Need-returns-6
-unfolding commandAt
+unfolding commandOf
 returns-6 c = rw (c .match .keys6)
 
 returns-7 : tie.Need-returns-7
-unfolding commandAt
+unfolding commandOf
 returns-7 c = rw (c .match .keys7)
 
 returns-8 : tie.Need-returns-8
-unfolding commandAt
+unfolding commandOf
 returns-8 c = rw (c .before .match .keys8, c .low8 .ensures)
 
 returns-9 : tie.Need-returns-9
-unfolding commandAt
+unfolding commandOf
 returns-9 c = rw (c .before .match .keys9, c .low82 .ensures)
 
 returns-10 : tie.Need-returns-10
-unfolding commandAt
+unfolding commandOf
 returns-10 c =
     let p1 = c .before in
     rw (ne-eqb _ _ (p1 .match .rest .0 .0 .0 .0 .0 .0 .0 .0 .1), ne-eqb _ _ (p1 .match .rest .0 .0 .0 .0 .0 .0 .0 .1), ne-eqb _ _ (p1 .match .rest .0 .0 .0 .0 .0 .0 .1), ne-eqb _ _ (p1 .match .rest .0 .0 .0 .0 .0 .1), ne-eqb _ _ (p1 .match .rest .0 .0 .0 .0 .1), ne-eqb _ _ (p1 .match .rest .0 .0 .0 .1), ne-eqb _ _ (p1 .match .rest .0 .0 .1), ne-eqb _ _ (p1 .match .rest .0 .1), ne-eqb _ _ (p1 .match .rest .1)) (c .driven .ensures)

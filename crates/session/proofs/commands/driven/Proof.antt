@@ -8,41 +8,41 @@ use Rattle.session.proofs.commands.driven.Tie as tie
 array-read-t7 : tie.Need-array-read-t7
 array-read-t7 c = search needs
 
-array-read-word : tie.Need-array-read-word
-array-read-word c = search needs
+array-read-low-word : tie.Need-array-read-low-word
+array-read-low-word c = search needs
 
-word-requires : tie.Need-word-requires
-word-requires c κs = search needs
+low-word-requires : tie.Need-low-word-requires
+low-word-requires c κs = search needs
 
-array-read-word-2 : tie.Need-array-read-word-2
-array-read-word-2 c = search needs
+array-read-low-word-2 : tie.Need-array-read-low-word-2
+array-read-low-word-2 c = search needs
 
-word-requires-2 : tie.Need-word-requires-2
-word-requires-2 c κs = search needs
+low-word-requires-2 : tie.Need-low-word-requires-2
+low-word-requires-2 c κs = search needs
 
-array-read-word-3 : tie.Need-array-read-word-3
-array-read-word-3 c = search needs
+array-read-low-word-3 : tie.Need-array-read-low-word-3
+array-read-low-word-3 c = search needs
 
-word-requires-3 : tie.Need-word-requires-3
-word-requires-3 c κs = search needs
+low-word-requires-3 : tie.Need-low-word-requires-3
+low-word-requires-3 c κs = search needs
 
-array-read-word-4 : tie.Need-array-read-word-4
-array-read-word-4 c = search needs
+array-read-low-word-4 : tie.Need-array-read-low-word-4
+array-read-low-word-4 c = search needs
 
-word-requires-4 : tie.Need-word-requires-4
-word-requires-4 c κs = search needs
+low-word-requires-4 : tie.Need-low-word-requires-4
+low-word-requires-4 c κs = search needs
 
-array-read-word-5 : tie.Need-array-read-word-5
-array-read-word-5 c = search needs
+array-read-low-word-5 : tie.Need-array-read-low-word-5
+array-read-low-word-5 c = search needs
 
-word-requires-5 : tie.Need-word-requires-5
-word-requires-5 c κs = search needs
+low-word-requires-5 : tie.Need-low-word-requires-5
+low-word-requires-5 c κs = search needs
 
-array-read-word-6 : tie.Need-array-read-word-6
-array-read-word-6 c = search needs
+array-read-low-word-6 : tie.Need-array-read-low-word-6
+array-read-low-word-6 c = search needs
 
-word-requires-6 : tie.Need-word-requires-6
-word-requires-6 c κs = search needs
+low-word-requires-6 : tie.Need-low-word-requires-6
+low-word-requires-6 c κs = search needs
 
 array-read-t35 : tie.Need-array-read-t35
 array-read-t35 c = search needs
@@ -77,11 +77,11 @@ returns-5 c =
     let p3 = p2 .before in
     let p4 = p3 .before in
     let p5 = p4 .before in
-    rw (p5 .match .keys5, c .word5 .ensures, p1 .word4 .ensures, p2 .word3 .ensures, p3 .word2 .ensures, p4 .word .ensures)
+    rw (p5 .match .keys5, c .low-word5 .ensures, p1 .low-word4 .ensures, p2 .low-word3 .ensures, p3 .low-word2 .ensures, p4 .low-word .ensures)
 
 returns-6 : tie.Need-returns-6
 unfolding driven
-returns-6 c = rw (c .before .match .keys6, c .word6 .ensures)
+returns-6 c = rw (c .before .match .keys6, c .low-word6 .ensures)
 
 returns-7 : tie.Need-returns-7
 unfolding driven
@@ -102,18 +102,18 @@ driven-spec =
     tie.close
     (tie.spec
     array-read-t7
-    array-read-word
-    word-requires
-    array-read-word-2
-    word-requires-2
-    array-read-word-3
-    word-requires-3
-    array-read-word-4
-    word-requires-4
-    array-read-word-5
-    word-requires-5
-    array-read-word-6
-    word-requires-6
+    array-read-low-word
+    low-word-requires
+    array-read-low-word-2
+    low-word-requires-2
+    array-read-low-word-3
+    low-word-requires-3
+    array-read-low-word-4
+    low-word-requires-4
+    array-read-low-word-5
+    low-word-requires-5
+    array-read-low-word-6
+    low-word-requires-6
     array-read-t35
     array-read-t38
     parameter-requires

@@ -1,23 +1,23 @@
 -- Right because the arms are the definition's.
 use borrow.Author.Tests.{ne-eqb}
-use Rattle.session.specs.Commands.{modeAt}
+use Rattle.session.specs.Commands.{modeOf}
 use Rattle.session.proofs.commands.mode_of.Statement.{statement}
 use Rattle.session.proofs.commands.mode_of.Tie as tie
 
 returns : tie.Need-returns
-unfolding modeAt
+unfolding modeOf
 returns c = rw (c .match .keys1)
 
 returns-2 : tie.Need-returns-2
-unfolding modeAt
+unfolding modeOf
 returns-2 c = rw (c .match .keys2)
 
 returns-3 : tie.Need-returns-3
-unfolding modeAt
+unfolding modeOf
 returns-3 c = rw (c .match .keys3)
 
 returns-4 : tie.Need-returns-4
-unfolding modeAt
+unfolding modeOf
 returns-4 c = rw (ne-eqb _ _ (c .match .rest .0 .0 .1), ne-eqb _ _ (c .match .rest .0 .1), ne-eqb _ _ (c .match .rest .1))
 
 pub mode-of-spec : {M : Type 1} → statement M

@@ -1,6 +1,6 @@
 -- Right because each arm is the definition's, its arguments cut to their widths.
 use borrow.Author.Tests.{ne-eqb}
-use Rattle.session.specs.Commands.{parameterCall}
+use Rattle.session.specs.Commands.{parameterOf}
 use borrow.Author.Needs.{needs}
 use Rattle.session.proofs.commands.parameter.Statement.{statement}
 use Rattle.session.proofs.commands.parameter.Tie as tie
@@ -11,44 +11,44 @@ array-read-low16 c = search needs
 low16-requires : tie.Need-low16-requires
 low16-requires c κs = search needs
 
-array-read-value-of : tie.Need-array-read-value-of
-array-read-value-of c = search needs
+array-read-typed-value : tie.Need-array-read-typed-value
+array-read-typed-value c = search needs
 
-array-read-value-of-2 : tie.Need-array-read-value-of-2
-array-read-value-of-2 c = search needs
+array-read-typed-value-2 : tie.Need-array-read-typed-value-2
+array-read-typed-value-2 c = search needs
 
-value-of-requires : tie.Need-value-of-requires
-value-of-requires c κs = search needs
+typed-value-requires : tie.Need-typed-value-requires
+typed-value-requires c κs = search needs
 
-array-read-word : tie.Need-array-read-word
-array-read-word c = search needs
+array-read-low-word : tie.Need-array-read-low-word
+array-read-low-word c = search needs
 
-word-requires : tie.Need-word-requires
-word-requires c κs = search needs
+low-word-requires : tie.Need-low-word-requires
+low-word-requires c κs = search needs
 
-array-read-word-2 : tie.Need-array-read-word-2
-array-read-word-2 c = search needs
+array-read-low-word-2 : tie.Need-array-read-low-word-2
+array-read-low-word-2 c = search needs
 
-word-requires-2 : tie.Need-word-requires-2
-word-requires-2 c κs = search needs
+low-word-requires-2 : tie.Need-low-word-requires-2
+low-word-requires-2 c κs = search needs
 
-array-read-word-3 : tie.Need-array-read-word-3
-array-read-word-3 c = search needs
+array-read-low-word-3 : tie.Need-array-read-low-word-3
+array-read-low-word-3 c = search needs
 
-word-requires-3 : tie.Need-word-requires-3
-word-requires-3 c κs = search needs
+low-word-requires-3 : tie.Need-low-word-requires-3
+low-word-requires-3 c κs = search needs
 
-array-read-word-4 : tie.Need-array-read-word-4
-array-read-word-4 c = search needs
+array-read-low-word-4 : tie.Need-array-read-low-word-4
+array-read-low-word-4 c = search needs
 
-word-requires-4 : tie.Need-word-requires-4
-word-requires-4 c κs = search needs
+low-word-requires-4 : tie.Need-low-word-requires-4
+low-word-requires-4 c κs = search needs
 
-array-read-word-5 : tie.Need-array-read-word-5
-array-read-word-5 c = search needs
+array-read-low-word-5 : tie.Need-array-read-low-word-5
+array-read-low-word-5 c = search needs
 
-word-requires-5 : tie.Need-word-requires-5
-word-requires-5 c κs = search needs
+low-word-requires-5 : tie.Need-low-word-requires-5
+low-word-requires-5 c κs = search needs
 
 array-read-low16-2 : tie.Need-array-read-low16-2
 array-read-low16-2 c = search needs
@@ -99,35 +99,35 @@ array-read-t71 : tie.Need-array-read-t71
 array-read-t71 c = search needs
 
 returns : tie.Need-returns
-unfolding parameterCall
-returns c = rw (c .before .before .match .keys1, c .value-of .ensures, c .before .low16 .ensures)
+unfolding parameterOf
+returns c = rw (c .before .before .match .keys1, c .typed-value .ensures, c .before .low16 .ensures)
 
 returns-2 : tie.Need-returns-2
-unfolding parameterCall
-returns-2 c = rw (c .before .before .match .keys2, c .word2 .ensures, c .before .word .ensures)
+unfolding parameterOf
+returns-2 c = rw (c .before .before .match .keys2, c .low-word2 .ensures, c .before .low-word .ensures)
 
 returns-3 : tie.Need-returns-3
-unfolding parameterCall
-returns-3 c = rw (c .before .before .before .match .keys3, c .word5 .ensures, c .before .word4 .ensures, c .before .before .word3 .ensures)
+unfolding parameterOf
+returns-3 c = rw (c .before .before .before .match .keys3, c .low-word5 .ensures, c .before .low-word4 .ensures, c .before .before .low-word3 .ensures)
 
 returns-4 : tie.Need-returns-4
-unfolding parameterCall
+unfolding parameterOf
 returns-4 c = rw (c .before .match .keys4, c .low162 .ensures)
 
 returns-5 : tie.Need-returns-5
-unfolding parameterCall
+unfolding parameterOf
 returns-5 c = rw (c .before .match .keys5, c .low163 .ensures)
 
 returns-6 : tie.Need-returns-6
-unfolding parameterCall
+unfolding parameterOf
 returns-6 c = rw (c .before .before .match .keys6, c .low165 .ensures, c .before .low164 .ensures)
 
 returns-7 : tie.Need-returns-7
-unfolding parameterCall
+unfolding parameterOf
 returns-7 c = rw (c .before .match .keys7, c .low166 .ensures)
 
 returns-8 : tie.Need-returns-8
-unfolding parameterCall
+unfolding parameterOf
 returns-8 c =
     let p1 = c .before in
     rw (ne-eqb _ _ (p1 .match .rest .0 .0 .0 .0 .0 .0 .1), ne-eqb _ _ (p1 .match .rest .0 .0 .0 .0 .0 .1), ne-eqb _ _ (p1 .match .rest .0 .0 .0 .0 .1), ne-eqb _ _ (p1 .match .rest .0 .0 .0 .1), ne-eqb _ _ (p1 .match .rest .0 .0 .1), ne-eqb _ _ (p1 .match .rest .0 .1), ne-eqb _ _ (p1 .match .rest .1), c .low167 .ensures)
@@ -138,19 +138,19 @@ parameter-spec =
     (tie.spec
     array-read-low16
     low16-requires
-    array-read-value-of
-    array-read-value-of-2
-    value-of-requires
-    array-read-word
-    word-requires
-    array-read-word-2
-    word-requires-2
-    array-read-word-3
-    word-requires-3
-    array-read-word-4
-    word-requires-4
-    array-read-word-5
-    word-requires-5
+    array-read-typed-value
+    array-read-typed-value-2
+    typed-value-requires
+    array-read-low-word
+    low-word-requires
+    array-read-low-word-2
+    low-word-requires-2
+    array-read-low-word-3
+    low-word-requires-3
+    array-read-low-word-4
+    low-word-requires-4
+    array-read-low-word-5
+    low-word-requires-5
     array-read-low16-2
     low16-requires-2
     array-read-low16-3

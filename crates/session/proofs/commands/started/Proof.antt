@@ -39,8 +39,8 @@ fit-requires c κs = search needs
 enum-told : tie.Need-enum-told
 enum-told c = search needs
 
-start-of-requires : tie.Need-start-of-requires
-start-of-requires c κs = search needs
+start-event-requires : tie.Need-start-event-requires
+start-event-requires c κs = search needs
 
 enum-known-reason : tie.Need-enum-known-reason
 enum-known-reason c = search needs
@@ -55,7 +55,7 @@ returns-2 c =
     let p5 = p4 .before .before in
     let p6 = p5 .before in
     let p7 = p6 .before in
-    rw (← p7 .word .ensures, ← p6 .place .ensures, ne-eqb _ _ (p5 .if1 .left), ← p4 .word2 .ensures, ← p3 .arguments .ensures, ← p2 .fit .ensures, p1 .enum-told .given .1) (c .start-of .ensures)
+    rw (← p7 .word .ensures, ← p6 .place .ensures, ne-eqb _ _ (p5 .if1 .left), ← p4 .word2 .ensures, ← p3 .arguments .ensures, ← p2 .fit .ensures, p1 .enum-told .given .1) (c .start-event .ensures)
 
 returns-3 : tie.Need-returns-3
 unfolding started
@@ -83,7 +83,7 @@ started-spec =
     arguments-requires
     fit-requires
     enum-told
-    start-of-requires
+    start-event-requires
     enum-known-reason
     returns-2
     returns-3)

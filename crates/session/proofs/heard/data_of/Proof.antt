@@ -1,20 +1,20 @@
 -- Right because the tests are the definition's, in its order.
 use borrow.Author.Tests.{eq-eqb, le-ltb, lt-ltb, ne-eqb}
-use Rattle.session.specs.Heard.{dataIn}
+use Rattle.session.specs.Heard.{dataOf}
 use borrow.Author.Needs.{needs}
 use Rattle.session.proofs.heard.data_of.Statement.{statement}
 use Rattle.session.proofs.heard.data_of.Tie as tie
 
 returns : tie.Need-returns
-unfolding dataIn
+unfolding dataOf
 returns c = rw (eq-eqb _ _ (c .if1 .taken))
 
 returns-2 : tie.Need-returns-2
-unfolding dataIn
+unfolding dataOf
 returns-2 c = rw (ne-eqb _ _ (c .before .if1 .left), lt-ltb _ _ (c .if2 .taken))
 
 returns-3 : tie.Need-returns-3
-unfolding dataIn
+unfolding dataOf
 returns-3 c = rw (ne-eqb _ _ (c .before .before .if1 .left), le-ltb _ _ (c .before .if2 .left), eq-eqb _ _ (c .if3 .taken))
 
 hex-word-requires : tie.Need-hex-word-requires
@@ -27,7 +27,7 @@ enum-told : tie.Need-enum-told
 enum-told c = search needs
 
 returns-4 : tie.Need-returns-4
-unfolding dataIn
+unfolding dataOf
 returns-4 c =
     let p1 = c .before .before in
     let p2 = p1 .before in
@@ -39,7 +39,7 @@ shifted-requires : tie.Need-shifted-requires
 shifted-requires c κs = search needs
 
 returns-5 : tie.Need-returns-5
-unfolding dataIn
+unfolding dataOf
 returns-5 c =
     let p1 = c .before .before in
     let p2 = p1 .before .before in

@@ -94,8 +94,8 @@ returns-5 c =
 word-requires-4 : tie.Need-word-requires-4
 word-requires-4 c κs = search needs
 
-frame-in-requires : tie.Need-frame-in-requires
-frame-in-requires c κs = search needs
+logged-frame-requires : tie.Need-logged-frame-requires
+logged-frame-requires c κs = search needs
 
 returns-6 : tie.Need-returns-6
 unfolding heardIn
@@ -112,7 +112,7 @@ returns-6 c =
     let p10 = p9 .before in
     let p11 = p10 .before in
     let p12 = p11 .before in
-    rw (← p12 .word-count .ensures, le-ltb _ _ (p11 .if1 .left), le-ltb _ _ (p10 .if2 .left), ← p9 .word .ensures, ne-eqb _ _ (p8 .if3 .left), ← p7 .word2 .ensures, ← p6 .is-direction .ensures, not-false (p6 .is-direction .result) (p5 .if4 .left), ← p4 .word3 .ensures, ← p3 .stamp .ensures, p2 .time .given .1, ← p1 .word4 .ensures) (c .frame-in .ensures)
+    rw (← p12 .word-count .ensures, le-ltb _ _ (p11 .if1 .left), le-ltb _ _ (p10 .if2 .left), ← p9 .word .ensures, ne-eqb _ _ (p8 .if3 .left), ← p7 .word2 .ensures, ← p6 .is-direction .ensures, not-false (p6 .is-direction .result) (p5 .if4 .left), ← p4 .word3 .ensures, ← p3 .stamp .ensures, p2 .time .given .1, ← p1 .word4 .ensures) (c .logged-frame .ensures)
 
 pub heard-spec : {M : Type 1} → statement M
 heard-spec =
@@ -137,5 +137,5 @@ heard-spec =
     bad-requires-5
     returns-5
     word-requires-4
-    frame-in-requires
+    logged-frame-requires
     returns-6)

@@ -24,8 +24,8 @@ fit-requires c κs = search needs
 enum-told : tie.Need-enum-told
 enum-told c = search needs
 
-call-of-requires : tie.Need-call-of-requires
-call-of-requires c κs = search needs
+call-event-requires : tie.Need-call-event-requires
+call-event-requires c κs = search needs
 
 enum-known-reason : tie.Need-enum-known-reason
 enum-known-reason c = search needs
@@ -40,7 +40,7 @@ returns-2 c =
     let p2 = p1 .before .before in
     let p3 = p2 .before .before in
     let p4 = p3 .before in
-    rw (ne-eqb _ _ (p4 .if1 .left), ← p3 .arguments .ensures, ← p2 .fit .ensures, p1 .enum-told .given .1) (c .call-of .ensures)
+    rw (ne-eqb _ _ (p4 .if1 .left), ← p3 .arguments .ensures, ← p2 .fit .ensures, p1 .enum-told .given .1) (c .call-event .ensures)
 
 returns-3 : tie.Need-returns-3
 unfolding called
@@ -62,7 +62,7 @@ called-spec =
     arguments-requires
     fit-requires
     enum-told
-    call-of-requires
+    call-event-requires
     enum-known-reason
     bad-requires
     returns-2

@@ -5,19 +5,19 @@ use native.Mathlib.Nat.{zero-add}
 use native.Mathlib.Omega.{arith}
 use borrow.Author.Needs.{needs}
 use lib.ListN.{length, drop}
-use Rattle.station.specs.Stations.{indexOf}
+use Rattle.station.specs.Stations.{placeOf}
 use Rattle.station.proofs.Index.{past, hit, at-end}
 use Rattle.station.proofs.place.place_of.Statement.{statement}
 use Rattle.station.proofs.place.place_of.Tie as tie
 
 abbrev Inv-loop : tie.InvT-loop
-Inv-loop id motors i₀ i = (i ≤ 8) × (indexOf motors id ≡ i + indexOf (drop i motors) id)
+Inv-loop id motors i₀ i = (i ≤ 8) × (placeOf motors id ≡ i + placeOf (drop i motors) id)
 
 abbrev μ-loop : tie.MeasureT-loop
 μ-loop id motors i₀ i = 8 - i
 
 loop-holds : tie.Need-loop-holds Inv-loop μ-loop
-loop-holds c = (omega arith, sym (zero-add (indexOf _ _)))
+loop-holds c = (omega arith, sym (zero-add (placeOf _ _)))
 
 mul-if1 : tie.Need-mul-if1 Inv-loop μ-loop
 mul-if1 c = search needs

@@ -4,7 +4,7 @@ use Rattle.codec.specs.declared.error.Checked.{Checked}
 use Rattle.codec.specs.declared.error.Checked.the-variants as checked
 use Rattle.motor.specs.declared.motor.Motor.{Motor}
 use Rattle.station.specs.declared.station.Station.{Station}
-use Rattle.station.specs.Stations.{tells, withMotor, removedAt}
+use Rattle.station.specs.Stations.{tell, withMotor, removedAt}
 use borrow.Author.Needs.{needs}
 use Rattle.station.proofs.station.removed_at.Statement.{statement}
 use Rattle.station.proofs.station.removed_at.Tie as tie
@@ -31,7 +31,7 @@ returns : tie.Need-returns
 returns c =
     let a = c .before .before .before .before .before .args in
     c .tell .ensures
-    ∙ ap (λ (t : Station). tells t checked.Passed) (c .before .with-motor .ensures ∙ ap (λ (m : Motor). withMotor (a .st) (a .i) m) (c .before .before .free-motor .ensures))
+    ∙ ap (λ (t : Station). tell t checked.Passed) (c .before .with-motor .ensures ∙ ap (λ (m : Motor). withMotor (a .st) (a .i) m) (c .before .before .free-motor .ensures))
     ∙ sym (ap (λ (k : Checked). removedAt k (a .st) (a .i)) (c .before .before .before .enum-told .given .1))
 
 returns-2 : tie.Need-returns-2

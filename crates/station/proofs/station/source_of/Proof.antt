@@ -2,7 +2,7 @@
 use mathlib.Core.Path.{ap}
 use Prim.Native.Nat.{_%_}
 use Rattle.codec.specs.declared.protocol.IdParts.{IdParts}
-use Rattle.station.specs.Station.{source}
+use Rattle.station.specs.Station.{sourceOf}
 use borrow.Author.Needs.{needs}
 use Rattle.station.proofs.station.source_of.Statement.{statement}
 use Rattle.station.proofs.station.source_of.Tie as tie
@@ -11,7 +11,7 @@ ext-id-parts-requires : tie.Need-ext-id-parts-requires
 ext-id-parts-requires c κs = search needs
 
 returns : tie.Need-returns
-unfolding source
+unfolding sourceOf
 returns c = ap (λ (p : IdParts). p .«extra_data» % 256) (c .before .ext-id-parts .ensures)
 
 pub source-of-spec : {M : Type 1} → statement M

@@ -5,12 +5,12 @@ use lib.ListN.{length, drop}
 use mathlib.Core.Path.{_≡_, sym, _∙_}
 use Prim.Native.Nat.{_-_, _≤_}
 use Rattle.text.proofs.Reading.{over, within, some, none, read-done, read-stop, read-over, read-on}
-use Rattle.text.specs.Numbers.{inBase, readFrom}
+use Rattle.text.specs.Numbers.{digitsIn, readFrom}
 use Rattle.text.proofs.numbers.digits.Statement.{statement}
 use Rattle.text.proofs.numbers.digits.Tie as tie
 
 abbrev Inv-loop : tie.InvT-loop
-Inv-loop w base n₀ i₀ n i = (i ≤ length w) × (inBase base w ≡ readFrom base n (drop i w))
+Inv-loop w base n₀ i₀ n i = (i ≤ length w) × (digitsIn base w ≡ readFrom base n (drop i w))
 
 abbrev μ-loop : tie.MeasureT-loop
 μ-loop w base n₀ i₀ n i = length w - i

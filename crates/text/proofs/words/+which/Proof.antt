@@ -12,7 +12,7 @@ use Rattle.text.proofs.words.which.Reads as which
 use Rattle.text.proofs.words.which.Kinds as which-kinds
 use Rattle.text.proofs.words.+which.Lts-which as which-lts
 use Rattle.text.proofs.words.past_word.Reads as past-word-reads
-use Rattle.text.proofs.words.same.Reads as same-reads
+use Rattle.text.proofs.words.same_bytes.Reads as same-bytes-reads
 use Rattle.text.proofs.words.word.Reads as word-reads
 use Rattle.text.proofs.words.+which.{statement}
 use Rattle.text.proofs.words.+which.Tie.{close}
@@ -31,8 +31,8 @@ abbrev which-claims : ℕ → which-lts.Claims
 which-claims t = (
   word-reads.Asked,
   word-reads.Learnt,
-  same-reads.Asked,
-  same-reads.Learnt,
+  same-bytes-reads.Asked,
+  same-bytes-reads.Learnt,
   past-word-reads.Asked,
   past-word-reads.Learnt,
   which-below t,
@@ -45,7 +45,7 @@ which-returns t c = (which-none _ _ _ (c .if1 .taken), omega arith)
 which-word-requires : (t : ℕ) → which-lts.Need-word-requires (which-claims t) (which-at t) which.Post
 which-word-requires t c κs = search needs
 
-which-same-requires : (t : ℕ) → which-lts.Need-same-requires (which-claims t) (which-at t) which.Post
+which-same-requires : (t : ℕ) → which-lts.Need-same-bytes-requires (which-claims t) (which-at t) which.Post
 which-same-requires t c κs = search needs
 
 which-returns-2 : (t : ℕ) → which-lts.Need-returns-2 (which-claims t) (which-at t) which.Post
@@ -54,7 +54,7 @@ which-returns-2 t c =
     let w = s .before in
     let i = w .before in
     let a = i .before .before .before .args in
-    (which-here (a .names .now) (a .n) (a .w .now) (i .if1 .left) (ap (λ (l : List ℕ). sameBytes (a .w .now) l) (sym (w .word .ensures)) ∙ sym (s .same .ensures) ∙ c .if2 .taken), omega arith)
+    (which-here (a .names .now) (a .n) (a .w .now) (i .if1 .left) (ap (λ (l : List ℕ). sameBytes (a .w .now) l) (sym (w .word .ensures)) ∙ sym (s .same-bytes .ensures) ∙ c .if2 .taken), omega arith)
 
 which-past-word-requires : (t : ℕ) → which-lts.Need-past-word-requires (which-claims t) (which-at t) which.Post
 which-past-word-requires t c κs = search needs
@@ -75,7 +75,7 @@ which-returns-3 t c =
     let w = s .before in
     let i = w .before in
     let a = i .before .before .before .args in
-    (ap (λ (k : ℕ). 1 + k) (c .which .ensures .0 ∙ ap (λ (l : List ℕ). whichOf l (a .n - 1) (a .w .now)) (p .past-word .ensures)) ∙ which-later (a .names .now) (a .n) (a .w .now) (i .if1 .left) (ap (λ (l : List ℕ). sameBytes (a .w .now) l) (sym (w .word .ensures)) ∙ sym (s .same .ensures) ∙ p .before .if2 .left), omega (arith, c .which .ensures .1))
+    (ap (λ (k : ℕ). 1 + k) (c .which .ensures .0 ∙ ap (λ (l : List ℕ). whichOf l (a .n - 1) (a .w .now)) (p .past-word .ensures)) ∙ which-later (a .names .now) (a .n) (a .w .now) (i .if1 .left) (ap (λ (l : List ℕ). sameBytes (a .w .now) l) (sym (w .word .ensures)) ∙ sym (s .same-bytes .ensures) ∙ p .before .if2 .left), omega (arith, c .which .ensures .1))
 
 pub +which-spec : {M : Type 1} → statement M
 +which-spec = close μ-which λ t. which-lts.spec (which-claims t)

@@ -6,12 +6,12 @@ use mathlib.Core.Logic.{⊎-elim}
 use mathlib.Core.Path.{_≡_}
 use Prim.Native.Nat.{_+_, _-_, _≤_}
 use Rattle.text.proofs.Reading.{words-space, words-other, words-done}
-use Rattle.text.specs.Words.{wordsIn}
+use Rattle.text.specs.Words.{wordCount}
 use Rattle.text.proofs.words.word_count.Statement.{statement}
 use Rattle.text.proofs.words.word_count.Tie as tie
 
 abbrev Inv-loop : tie.InvT-loop
-Inv-loop s n₀ i₀ n i = (i ≤ length s) × (n ≤ i + 1) × (n + wordsIn (drop i s) ≡ wordsIn s + 1)
+Inv-loop s n₀ i₀ n i = (i ≤ length s) × (n ≤ i + 1) × (n + wordCount (drop i s) ≡ wordCount s + 1)
 
 abbrev μ-loop : tie.MeasureT-loop
 μ-loop s n₀ i₀ n i = length s - i
@@ -41,7 +41,7 @@ returns : tie.Need-returns Inv-loop μ-loop
 returns c =
     let p1 = c .before in
     let p2 = p1 .before in
-    let e : (p1 .loop .i) ≡ length (p2 .args .s .now) = omega arith in let d : wordsIn (drop (p1 .loop .i) (p2 .args .s .now)) ≡ 1 = rw e (words-done (p2 .args .s .now)) in omega arith
+    let e : (p1 .loop .i) ≡ length (p2 .args .s .now) = omega arith in let d : wordCount (drop (p1 .loop .i) (p2 .args .s .now)) ≡ 1 = rw e (words-done (p2 .args .s .now)) in omega arith
 
 pub word-count-spec : {M : Type 1} → statement M
 word-count-spec =

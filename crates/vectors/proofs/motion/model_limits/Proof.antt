@@ -6,35 +6,35 @@ use Rattle.vectors.proofs.motion.model_limits.Tie as tie
 limits-named-requires : tie.Need-limits-named-requires
 limits-named-requires c κs = search needs
 
-array-read-word-of : tie.Need-array-read-word-of
-array-read-word-of c = search needs
+array-read-bits-of : tie.Need-array-read-bits-of
+array-read-bits-of c = search needs
 
-word-of-requires : tie.Need-word-of-requires
-word-of-requires c κs = search needs
+bits-of-requires : tie.Need-bits-of-requires
+bits-of-requires c κs = search needs
 
-array-read-word-of-2 : tie.Need-array-read-word-of-2
-array-read-word-of-2 c = search needs
+array-read-bits-of-2 : tie.Need-array-read-bits-of-2
+array-read-bits-of-2 c = search needs
 
-word-of-requires-2 : tie.Need-word-of-requires-2
-word-of-requires-2 c κs = search needs
+bits-of-requires-2 : tie.Need-bits-of-requires-2
+bits-of-requires-2 c κs = search needs
 
-array-read-word-of-3 : tie.Need-array-read-word-of-3
-array-read-word-of-3 c = search needs
+array-read-bits-of-3 : tie.Need-array-read-bits-of-3
+array-read-bits-of-3 c = search needs
 
-word-of-requires-3 : tie.Need-word-of-requires-3
-word-of-requires-3 c κs = search needs
+bits-of-requires-3 : tie.Need-bits-of-requires-3
+bits-of-requires-3 c κs = search needs
 
-array-read-word-of-4 : tie.Need-array-read-word-of-4
-array-read-word-of-4 c = search needs
+array-read-bits-of-4 : tie.Need-array-read-bits-of-4
+array-read-bits-of-4 c = search needs
 
-word-of-requires-4 : tie.Need-word-of-requires-4
-word-of-requires-4 c κs = search needs
+bits-of-requires-4 : tie.Need-bits-of-requires-4
+bits-of-requires-4 c κs = search needs
 
-array-read-word-of-5 : tie.Need-array-read-word-of-5
-array-read-word-of-5 c = search needs
+array-read-bits-of-5 : tie.Need-array-read-bits-of-5
+array-read-bits-of-5 c = search needs
 
-word-of-requires-5 : tie.Need-word-of-requires-5
-word-of-requires-5 c κs = search needs
+bits-of-requires-5 : tie.Need-bits-of-requires-5
+bits-of-requires-5 c κs = search needs
 
 returns : tie.Need-returns
 returns c =
@@ -43,21 +43,21 @@ returns c =
     let p3 = p2 .before in
     let p4 = p3 .before in
     let p5 = p4 .before .before in
-    rw (c .word-of5 .ensures, p1 .word-of4 .ensures, p2 .word-of3 .ensures, p3 .word-of2 .ensures, p4 .word-of .ensures, p5 .limits-named .ensures)
+    rw (c .bits-of5 .ensures, p1 .bits-of4 .ensures, p2 .bits-of3 .ensures, p3 .bits-of2 .ensures, p4 .bits-of .ensures, p5 .limits-named .ensures)
 
 pub model-limits-spec : {M : Type 1} → statement M
 model-limits-spec =
     tie.close
     (tie.spec
     limits-named-requires
-    array-read-word-of
-    word-of-requires
-    array-read-word-of-2
-    word-of-requires-2
-    array-read-word-of-3
-    word-of-requires-3
-    array-read-word-of-4
-    word-of-requires-4
-    array-read-word-of-5
-    word-of-requires-5
+    array-read-bits-of
+    bits-of-requires
+    array-read-bits-of-2
+    bits-of-requires-2
+    array-read-bits-of-3
+    bits-of-requires-3
+    array-read-bits-of-4
+    bits-of-requires-4
+    array-read-bits-of-5
+    bits-of-requires-5
     returns)

@@ -18,8 +18,8 @@ value-requires c κs = search needs
 codec-status-value-requires : tie.Need-codec-status-value-requires
 codec-status-value-requires c κs = search needs
 
-word-of-requires : tie.Need-word-of-requires
-word-of-requires c κs = search needs
+bits-of-requires : tie.Need-bits-of-requires
+bits-of-requires c κs = search needs
 
 replied-requires : tie.Need-replied-requires
 replied-requires c κs = search needs
@@ -30,7 +30,7 @@ returns c =
     let p2 = p1 .before in
     let p3 = p2 .before in
     let p4 = p3 .before in
-    rw (c .replied .ensures, p1 .word-of .ensures, p2 .codec-status-value .ensures, p3 .value .ensures, p4 .low16 .ensures)
+    rw (c .replied .ensures, p1 .bits-of .ensures, p2 .codec-status-value .ensures, p3 .value .ensures, p4 .low16 .ensures)
 
 pub status-value-spec : {M : Type 1} → statement M
 status-value-spec =
@@ -41,6 +41,6 @@ status-value-spec =
     array-read-value
     value-requires
     codec-status-value-requires
-    word-of-requires
+    bits-of-requires
     replied-requires
     returns)

@@ -12,14 +12,14 @@ low16-requires c κs = search needs
 codec-temperature-requires : tie.Need-codec-temperature-requires
 codec-temperature-requires c κs = search needs
 
-word-of-requires : tie.Need-word-of-requires
-word-of-requires c κs = search needs
+bits-of-requires : tie.Need-bits-of-requires
+bits-of-requires c κs = search needs
 
 replied-requires : tie.Need-replied-requires
 replied-requires c κs = search needs
 
 returns : tie.Need-returns
-returns c = rw (c .replied .ensures, c .before .word-of .ensures, c .before .before .codec-temperature .ensures, c .before .before .before .low16 .ensures)
+returns c = rw (c .replied .ensures, c .before .bits-of .ensures, c .before .before .codec-temperature .ensures, c .before .before .before .low16 .ensures)
 
 pub temperature-spec : {M : Type 1} → statement M
 temperature-spec =
@@ -28,6 +28,6 @@ temperature-spec =
     array-read-low16
     low16-requires
     codec-temperature-requires
-    word-of-requires
+    bits-of-requires
     replied-requires
     returns)

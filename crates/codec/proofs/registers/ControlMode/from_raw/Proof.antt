@@ -1,27 +1,27 @@
 -- Right because each test is the definition's, in its order.
 use borrow.Author.Tests.{eq-eqb, ne-eqb}
-use Rattle.codec.specs.Modes.{modeRead}
+use Rattle.codec.specs.Modes.{controlModeFromRaw}
 use Rattle.codec.proofs.registers.ControlMode.from_raw.Statement.{statement}
 use Rattle.codec.proofs.registers.ControlMode.from_raw.Tie as tie
 
 returns : tie.Need-returns
-unfolding modeRead
+unfolding controlModeFromRaw
 returns c = rw (eq-eqb _ _ (c .if1 .taken))
 
 returns-2 : tie.Need-returns-2
-unfolding modeRead
+unfolding controlModeFromRaw
 returns-2 c = rw (ne-eqb _ _ (c .before .if1 .left), eq-eqb _ _ (c .if2 .taken))
 
 returns-3 : tie.Need-returns-3
-unfolding modeRead
+unfolding controlModeFromRaw
 returns-3 c = rw (ne-eqb _ _ (c .before .before .if1 .left), ne-eqb _ _ (c .before .if2 .left), eq-eqb _ _ (c .if3 .taken))
 
 returns-4 : tie.Need-returns-4
-unfolding modeRead
+unfolding controlModeFromRaw
 returns-4 c = rw (ne-eqb _ _ (c .before .before .before .if1 .left), ne-eqb _ _ (c .before .before .if2 .left), ne-eqb _ _ (c .before .if3 .left), eq-eqb _ _ (c .if4 .taken))
 
 returns-5 : tie.Need-returns-5
-unfolding modeRead
+unfolding controlModeFromRaw
 returns-5 c = rw (ne-eqb _ _ (c .before .before .before .if1 .left), ne-eqb _ _ (c .before .before .if2 .left), ne-eqb _ _ (c .before .if3 .left), ne-eqb _ _ (c .if4 .left))
 
 pub from-raw-spec : {M : Type 1} → statement M

@@ -9,7 +9,7 @@ use lib.ListN.{length}
 use borrow.Author.Needs.{needs}
 use borrow.Author.Tests.{le-ltb, lt-ltb}
 use Rattle.motor.specs.declared.engine.candidates.Candidates.{Candidates}
-use Rattle.motor.specs.engine.Hosts.{candidatesOf}
+use Rattle.motor.specs.engine.Hosts.{hostCandidates}
 use Rattle.motor.proofs.engine.candidates.host_at.Statement.{statement}
 use Rattle.motor.proofs.engine.candidates.host_at.Tie as tie
 
@@ -25,7 +25,7 @@ mul-t7 : tie.Need-mul-t7
 mul-t7 c = search needs
 
 array-read-t10 : tie.Need-array-read-t10
-unfolding candidatesOf
+unfolding hostCandidates
 array-read-t10 c = omega (arith, ap (λ (k : Candidates). k .count) (c .before .before .before .host-candidates .ensures), few (eqb (c .before .before .before .before .args .own) 0xFD))
 
 add-t11 : tie.Need-add-t11

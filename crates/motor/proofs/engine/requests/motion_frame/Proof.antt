@@ -4,7 +4,7 @@ use lib.Ieee.{Float}
 use Rattle.codec.specs.declared.model.Limits.{Limits}
 use Rattle.codec.specs.declared.word.Word.{Word}
 use Rattle.codec.specs.Models.{limitsOf}
-use Rattle.codec.specs.Motion.{mitCommand}
+use Rattle.codec.specs.Motion.{encodeMitCommand}
 use Rattle.codec.specs.Words.{valueOf}
 use Rattle.motor.specs.declared.engine.operation.Sight.{Sight}
 use Rattle.motor.specs.engine.Requests.{motionOf, motionFrame}
@@ -13,7 +13,7 @@ use Rattle.motor.proofs.engine.requests.motion_frame.Statement.{stateme
 use Rattle.motor.proofs.engine.requests.motion_frame.Tie as tie
 
 -- the command of five values and limits that are those of the words and of the model
-command-of : (s : Sight) (p v kp kd t : Word) {x y f g z : Float} {l : Limits} → x ≡ valueOf p → y ≡ valueOf v → f ≡ valueOf kp → g ≡ valueOf kd → z ≡ valueOf t → l ≡ limitsOf (s .model) → mitCommand x y f g z l ≡ motionOf s p v kp kd t
+command-of : (s : Sight) (p v kp kd t : Word) {x y f g z : Float} {l : Limits} → x ≡ valueOf p → y ≡ valueOf v → f ≡ valueOf kp → g ≡ valueOf kd → z ≡ valueOf t → l ≡ limitsOf (s .model) → encodeMitCommand x y f g z l ≡ motionOf s p v kp kd t
 command-of s p v kp kd t a b c d e m = rw (a, b, c, d, e, m)
 
 limits-of-requires : tie.Need-limits-of-requires

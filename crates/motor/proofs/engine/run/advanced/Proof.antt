@@ -1,5 +1,5 @@
 -- Right because the phase decides, as in the definition.
-use Rattle.motor.specs.engine.Run.{advance}
+use Rattle.motor.specs.engine.Run.{advanced}
 use mathlib.Core.Path.{ap, sym, _∙_}
 use borrow.Author.Needs.{needs}
 use Rattle.motor.proofs.engine.run.advanced.Statement.{statement}
@@ -24,13 +24,13 @@ looked-requires : tie.Need-looked-requires
 looked-requires c κs = search needs
 
 returns : tie.Need-returns
-returns c = c .ended .ensures ∙ sym (ap (advance _ _ _ _) (c .before .enum-told .given .1))
+returns c = c .ended .ensures ∙ sym (ap (advanced _ _ _ _) (c .before .enum-told .given .1))
 
 returns-2 : tie.Need-returns-2
-returns-2 c = c .looked-pause .ensures ∙ sym (ap (advance _ _ _ _) (c .before .before .phase .given .1))
+returns-2 c = c .looked-pause .ensures ∙ sym (ap (advanced _ _ _ _) (c .before .before .phase .given .1))
 
 returns-3 : tie.Need-returns-3
-returns-3 c = c .looked .ensures ∙ sym (ap (advance _ _ _ _) (c .before .before .phase2 .given .1))
+returns-3 c = c .looked .ensures ∙ sym (ap (advanced _ _ _ _) (c .before .before .phase2 .given .1))
 
 pub advanced-spec : {M : Type 1} → statement M
 advanced-spec =

@@ -60,8 +60,8 @@ awaited-requires c κs = search needs
 enum-known-node-7 : tie.Need-enum-known-node-7
 enum-known-node-7 c = search needs
 
-moved-requires : tie.Need-moved-requires
-moved-requires c κs = search needs
+motion-sent-requires : tie.Need-motion-sent-requires
+motion-sent-requires c κs = search needs
 
 enum-known-node-8 : tie.Need-enum-known-node-8
 enum-known-node-8 c = search needs
@@ -94,7 +94,7 @@ returns-8 : tie.Need-returns-8
 returns-8 c = rw (c .before .before .node6 .given .1) (c .awaited .ensures)
 
 returns-9 : tie.Need-returns-9
-returns-9 c = rw (c .before .before .node7 .given .1) (c .moved .ensures)
+returns-9 c = rw (c .before .before .node7 .given .1) (c .motion-sent .ensures)
 
 returns-10 : tie.Need-returns-10
 returns-10 c = rw (c .before .before .node8 .given .1) (c .renamed .ensures)
@@ -122,7 +122,7 @@ entered-spec =
     enum-known-node-6
     awaited-requires
     enum-known-node-7
-    moved-requires
+    motion-sent-requires
     enum-known-node-8
     renamed-requires
     returns

@@ -1,6 +1,6 @@
 -- Right because the reply is looked for first, then the deadline tested.
 use Rattle.motor.proofs.engine.Choices.{cond-yes, cond-no}
-use Rattle.motor.specs.engine.Run.{enter}
+use Rattle.motor.specs.engine.Run.{entered}
 use mathlib.Core.Path.{ap, sym, _∙_}
 use borrow.Author.Tests.{le-ltb, lt-ltb}
 use borrow.Author.Needs.{needs}
@@ -14,7 +14,7 @@ entered-requires : tie.Need-entered-requires
 entered-requires c κs = search needs
 
 returns : tie.Need-returns
-returns c = (c .entered .ensures ∙ ap (enter _ _) (c .before .got-ping .ensures)) ∙ sym (cond-yes _ _ (c .before .before .if1 .taken))
+returns c = (c .entered .ensures ∙ ap (entered _ _) (c .before .got-ping .ensures)) ∙ sym (cond-yes _ _ (c .before .before .if1 .taken))
 
 waits-requires : tie.Need-waits-requires
 waits-requires c κs = search needs

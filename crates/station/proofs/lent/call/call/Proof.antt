@@ -34,7 +34,7 @@ use Rattle.motor.proofs.readings.Reading.Laws as record-laws
 use Rattle.motor.proofs.edits.Edit as edit-type
 use Rattle.motor.proofs.edits.Edit.Laws as edit-laws
 use Rattle.motor.specs.Limits.{mostRecords}
-use Rattle.motor.specs.Edits.{edited as edited-in}
+use Rattle.motor.specs.Edits.{editedBy as edited-in}
 use Rattle.walks.proofs.ThinWalk as thin
 use Rattle.station.specs.declared.call.Asked.{Asked}
 use Rattle.station.specs.declared.call.Replied.{Replied}
@@ -43,7 +43,7 @@ use Rattle.station.specs.declared.lent.visit.Kept.{Kept}
 use Rattle.station.specs.declared.lent.visit.Edited.{Edited}
 use Rattle.station.specs.declared.lent.visit.Visited.{Visited}
 use Rattle.station.specs.Stations.{freeMotor}
-use Rattle.station.specs.lent.Lent.{stationOf, routeOf, keptOf, editedOf, visitedOf}
+use Rattle.station.specs.lent.Lent.{stationOf, routedOf, keptAt, editedAt, visitedAt}
 use Rattle.station.proofs.call.Asked as asked-type
 use Rattle.station.proofs.call.Asked.Laws as asked-laws
 use Rattle.station.proofs.call.Replied as replied-type
@@ -93,7 +93,7 @@ abbrev the-code : Fn
 the-code =
     walk.code motor state reading asked replied said route-type.the-row kept-type.the-row visited-type.the-row edited-type.the-row (route-type.the-type .name) (kept-type.the-type .name) (visited-type.the-type .name) (edited-type.the-type .name) (edit-type.the-type .name)
     (λ r. r .«at») (λ r. r .said) (λ r. r .quiet) (λ r. r .edits) (λ v. v .state) (λ v. v .replied) (λ v. v .motor) (λ v. v .replied) (λ v. v .state) (λ v. v .edit .first) (λ v. v .edit .second) (λ v. v .edit .link) (λ v. v .edit .free) (λ v. v .edit .one) (λ v. v .replied)
-    (field 0 ∷ field 0 ∷ []) (field 0 ∷ []) (field 1 ∷ field 0 ∷ []) (field 2 ∷ []) (field 1 ∷ field 1 ∷ []) 16 mostRecords freeMotor ident (λ m. m .state) with-state with-record with-next with-free routeOf keptOf visitedOf editedOf
+    (field 0 ∷ field 0 ∷ []) (field 0 ∷ []) (field 1 ∷ field 0 ∷ []) (field 2 ∷ []) (field 1 ∷ field 1 ∷ []) 16 mostRecords freeMotor ident (λ m. m .state) with-state with-record with-next with-free routedOf keptAt visitedAt editedAt
     routed-def.name kept-def.name edited-def.name visited-def.name
 
 code-is : code.function ≡ the-code
@@ -143,26 +143,26 @@ module _ {M : Type 1} (𝓤 : URA M) (H : Heap 𝓤) (A : Atoms 𝓤) (at-mem : 
   abbrev routed-ensures : List ℕ → Asked → Route → SProp 𝓤
   routed-ensures is a r = routed.spec 𝓤 H A at-mem run tt (is, (a, tt)) .ensures tt r
 
-  routed-said : (is : List ℕ) (a : Asked) (r : Route) → ent 𝓤 (routed-ensures is a r) (fact 𝓤 ((r ≡ routeOf is a) × (r .«at» < 8)))
-  routed-said is a r = exE 𝓤 _ (λ ws. snd∗ 𝓤 (sem 𝓤 H A (lasts routed.ended tt (is, (a, tt)) ws)) (fact 𝓤 ((r ≡ routeOf is a) × (r .«at» < 8))))
+  routed-said : (is : List ℕ) (a : Asked) (r : Route) → ent 𝓤 (routed-ensures is a r) (fact 𝓤 ((r ≡ routedOf is a) × (r .«at» < 8)))
+  routed-said is a r = exE 𝓤 _ (λ ws. snd∗ 𝓤 (sem 𝓤 H A (lasts routed.ended tt (is, (a, tt)) ws)) (fact 𝓤 ((r ≡ routedOf is a) × (r .«at» < 8))))
 
   abbrev kept-ensures : State → Asked → Route → Kept → SProp 𝓤
   kept-ensures s a r v = kept.spec 𝓤 H A at-mem run tt (s, (a, (r, tt))) .ensures tt v
 
-  kept-said : (s : State) (a : Asked) (r : Route) (v : Kept) → ent 𝓤 (kept-ensures s a r v) (fact 𝓤 (v ≡ keptOf s a r))
-  kept-said s a r v = exE 𝓤 _ (λ ws. snd∗ 𝓤 (sem 𝓤 H A (lasts kept.ended tt (s, (a, (r, tt))) ws)) (fact 𝓤 (v ≡ keptOf s a r)))
+  kept-said : (s : State) (a : Asked) (r : Route) (v : Kept) → ent 𝓤 (kept-ensures s a r v) (fact 𝓤 (v ≡ keptAt s a r))
+  kept-said s a r v = exE 𝓤 _ (λ ws. snd∗ 𝓤 (sem 𝓤 H A (lasts kept.ended tt (s, (a, (r, tt))) ws)) (fact 𝓤 (v ≡ keptAt s a r)))
 
   abbrev visited-ensures : Motor → Asked → Route → Visited → SProp 𝓤
   visited-ensures m a r v = visited.spec 𝓤 H A at-mem run tt (m, (a, (r, tt))) .ensures tt v
 
-  visited-said : (m : Motor) (a : Asked) (r : Route) (v : Visited) → ent 𝓤 (visited-ensures m a r v) (fact 𝓤 (v ≡ visitedOf m a r))
-  visited-said m a r v = exE 𝓤 _ (λ ws. snd∗ 𝓤 (sem 𝓤 H A (lasts visited.ended tt (m, (a, (r, tt))) ws)) (fact 𝓤 (v ≡ visitedOf m a r)))
+  visited-said : (m : Motor) (a : Asked) (r : Route) (v : Visited) → ent 𝓤 (visited-ensures m a r v) (fact 𝓤 (v ≡ visitedAt m a r))
+  visited-said m a r v = exE 𝓤 _ (λ ws. snd∗ 𝓤 (sem 𝓤 H A (lasts visited.ended tt (m, (a, (r, tt))) ws)) (fact 𝓤 (v ≡ visitedAt m a r)))
 
   abbrev edited-ensures : Motor → Asked → Edited → SProp 𝓤
   edited-ensures m a v = edited.spec 𝓤 H A at-mem run tt (m, (a, tt)) .ensures tt v
 
-  edited-said : (m : Motor) (a : Asked) (v : Edited) → ent 𝓤 (edited-ensures m a v) (fact 𝓤 ((v ≡ editedOf m a) × (v .edit .first < mostRecords) × (v .edit .second < mostRecords)))
-  edited-said m a v = exE 𝓤 _ (λ ws. snd∗ 𝓤 (sem 𝓤 H A (lasts edited.ended tt (m, (a, tt)) ws)) (fact 𝓤 ((v ≡ editedOf m a) × (v .edit .first < mostRecords) × (v .edit .second < mostRecords))))
+  edited-said : (m : Motor) (a : Asked) (v : Edited) → ent 𝓤 (edited-ensures m a v) (fact 𝓤 ((v ≡ editedAt m a) × (v .edit .first < mostRecords) × (v .edit .second < mostRecords)))
+  edited-said m a v = exE 𝓤 _ (λ ws. snd∗ 𝓤 (sem 𝓤 H A (lasts edited.ended tt (m, (a, tt)) ws)) (fact 𝓤 ((v ≡ editedAt m a) × (v .edit .first < mostRecords) × (v .edit .second < mostRecords))))
 
   abbrev promised : Lfts 1 → RefT (List Motor) → Asked → Replied → RefT (List Motor) → SProp 𝓤
   promised κs m a y end = own.clauses 𝓤 H A at-mem run κs (m, (a, tt)) .ensures tt y (end, (a, tt))
@@ -172,17 +172,17 @@ module _ {M : Type 1} (𝓤 : URA M) (H : Heap 𝓤) (A : Atoms 𝓤) (at-mem : 
       ident (getD ms 0 freeMotor) ∷ ident (getD ms 1 freeMotor) ∷ ident (getD ms 2 freeMotor) ∷ ident (getD ms 3 freeMotor)
       ∷ ident (getD ms 4 freeMotor) ∷ ident (getD ms 5 freeMotor) ∷ ident (getD ms 6 freeMotor) ∷ ident (getD ms 7 freeMotor) ∷ []
 
-  holds-quiet : (κs : Lfts 1) (m : RefT (List Motor)) (a : Asked) (r : Route) (v : Kept) → length (now m) ≡ 8 → r ≡ routeOf (idsAt (now m)) a → r .quiet ≡ true
-      → v ≡ keptOf (getD (now m) (r .«at») freeMotor .state) a r → ent 𝓤 (emp 𝓤) (promised κs m a (v .replied) (at-last m (set (now m) (r .«at») (with-state (getD (now m) (r .«at») freeMotor) (v .state)))))
+  holds-quiet : (κs : Lfts 1) (m : RefT (List Motor)) (a : Asked) (r : Route) (v : Kept) → length (now m) ≡ 8 → r ≡ routedOf (idsAt (now m)) a → r .quiet ≡ true
+      → v ≡ keptAt (getD (now m) (r .«at») freeMotor .state) a r → ent 𝓤 (emp 𝓤) (promised κs m a (v .replied) (at-last m (set (now m) (r .«at») (with-state (getD (now m) (r .«at») freeMotor) (v .state)))))
   holds-quiet κs m a r v eight e q k = rw k (factI 𝓤 _ (emp 𝓤) (quiet (stationOf (now m)) eight a r e q))
 
-  holds-edit : (κs : Lfts 1) (m : RefT (List Motor)) (a : Asked) (r : Route) (v : Edited) → length (now m) ≡ 8 → r ≡ routeOf (idsAt (now m)) a → r .quiet ≡ false → r .edits ≡ true
-      → v ≡ editedOf (getD (now m) (r .«at») freeMotor) a → ent 𝓤 (emp 𝓤) (promised κs m a (v .replied) (at-last m (set (now m) (r .«at») (with-free (with-next (with-record (with-state (getD (now m) (r .«at») freeMotor) (v .state)) (v .edit .first) (v .edit .one)) (v .edit .second) (v .edit .link)) (v .edit .free)))))
+  holds-edit : (κs : Lfts 1) (m : RefT (List Motor)) (a : Asked) (r : Route) (v : Edited) → length (now m) ≡ 8 → r ≡ routedOf (idsAt (now m)) a → r .quiet ≡ false → r .edits ≡ true
+      → v ≡ editedAt (getD (now m) (r .«at») freeMotor) a → ent 𝓤 (emp 𝓤) (promised κs m a (v .replied) (at-last m (set (now m) (r .«at») (with-free (with-next (with-record (with-state (getD (now m) (r .«at») freeMotor) (v .state)) (v .edit .first) (v .edit .one)) (v .edit .second) (v .edit .link)) (v .edit .free)))))
   unfolding edited-in
   holds-edit κs m a r v eight e q d k = rw k (factI 𝓤 _ (emp 𝓤) (edit (stationOf (now m)) eight a r e d))
 
-  holds-whole : (κs : Lfts 1) (m : RefT (List Motor)) (a : Asked) (r : Route) (v : Visited) → length (now m) ≡ 8 → r ≡ routeOf (idsAt (now m)) a → r .quiet ≡ false → r .edits ≡ false
-      → v ≡ visitedOf (getD (now m) (r .«at») freeMotor) a r → ent 𝓤 (emp 𝓤) (promised κs m a (v .replied) (at-last m (set (now m) (r .«at») (v .motor))))
+  holds-whole : (κs : Lfts 1) (m : RefT (List Motor)) (a : Asked) (r : Route) (v : Visited) → length (now m) ≡ 8 → r ≡ routedOf (idsAt (now m)) a → r .quiet ≡ false → r .edits ≡ false
+      → v ≡ visitedAt (getD (now m) (r .«at») freeMotor) a r → ent 𝓤 (emp 𝓤) (promised κs m a (v .replied) (at-last m (set (now m) (r .«at») (v .motor))))
   holds-whole κs m a r v eight e q d k = rw k (factI 𝓤 _ (emp 𝓤) (full (stationOf (now m)) eight a r e))
 
   meets : Given 𝓤 H A → (𝓣 : Tables 𝓤 H) → Triple 𝓤 (𝓣 .C routed-def.name) (tripleOf 𝓤 H A routed.signature (routed.spec 𝓤 H A at-mem run))
@@ -192,7 +192,7 @@ module _ {M : Type 1} (𝓤 : URA M) (H : Heap 𝓤) (A : Atoms 𝓤) (at-mem : 
       subst (λ (f : Fn). Meets 𝓤 H A own.signature (WpFn 𝓤 H (𝓣 .C) (𝓣 .Λ) f) (own.spec 𝓤 H A at-mem run)) (sym code-is)
       (walk.meets motor state reading asked replied said route-type.the-row kept-type.the-row visited-type.the-row edited-type.the-row (route-type.the-type .name) (kept-type.the-type .name) (visited-type.the-type .name) (edited-type.the-type .name) (edit-type.the-type .name)
       (λ r. r .«at») (λ r. r .said) (λ r. r .quiet) (λ r. r .edits) (λ v. v .state) (λ v. v .replied) (λ v. v .motor) (λ v. v .replied) (λ v. v .state) (λ v. v .edit .first) (λ v. v .edit .second) (λ v. v .edit .link) (λ v. v .edit .free) (λ v. v .edit .one) (λ v. v .replied)
-      (field 0 ∷ field 0 ∷ []) (field 0 ∷ []) (field 1 ∷ field 0 ∷ []) (field 2 ∷ []) (field 1 ∷ field 1 ∷ []) 16 mostRecords freeMotor ident (λ m. m .state) with-state with-record with-next with-free routeOf keptOf visitedOf editedOf
+      (field 0 ∷ field 0 ∷ []) (field 0 ∷ []) (field 1 ∷ field 0 ∷ []) (field 2 ∷ []) (field 1 ∷ field 1 ∷ []) 16 mostRecords freeMotor ident (λ m. m .state) with-state with-record with-next with-free routedOf keptAt visitedAt editedAt
       𝓤 H A promised routed-ensures kept-ensures visited-ensures edited-ensures W size-fits far small tt far-row small-row routed-said kept-said visited-said edited-said
       (thin.struct-known 𝓤 H A W motor-type.the-type motor-laws.the-laws motor-laws.the-plain) (thin.struct-known 𝓤 H A W state-type.the-type state-laws.the-laws state-laws.the-plain) (thin.struct-known 𝓤 H A W record-type.the-type record-laws.the-laws record-laws.the-plain)
       (thin.struct-known 𝓤 H A W asked-type.the-type asked-laws.the-laws asked-laws.the-plain) (thin.struct-known 𝓤 H A W replied-type.the-type replied-laws.the-laws replied-laws.the-plain)

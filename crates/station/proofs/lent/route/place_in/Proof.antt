@@ -5,19 +5,19 @@ use native.Mathlib.Nat.{zero-add}
 use native.Mathlib.Omega.{arith}
 use borrow.Author.Needs.{needs}
 use lib.ListN.{length, drop}
-use Rattle.station.specs.lent.Lent.{indexIn}
+use Rattle.station.specs.lent.Lent.{placeIn}
 use Rattle.station.proofs.lent.IdIndex.{past, hit, at-end}
 use Rattle.station.proofs.lent.route.place_in.Statement.{statement}
 use Rattle.station.proofs.lent.route.place_in.Tie as tie
 
 abbrev Inv-loop : tie.InvT-loop
-Inv-loop id ids i₀ i = (i ≤ 8) × (indexIn ids id ≡ i + indexIn (drop i ids) id)
+Inv-loop id ids i₀ i = (i ≤ 8) × (placeIn ids id ≡ i + placeIn (drop i ids) id)
 
 abbrev μ-loop : tie.MeasureT-loop
 μ-loop id ids i₀ i = 8 - i
 
 loop-holds : tie.Need-loop-holds Inv-loop μ-loop
-loop-holds c = (omega arith, sym (zero-add (indexIn _ _)))
+loop-holds c = (omega arith, sym (zero-add (placeIn _ _)))
 
 mul-if1 : tie.Need-mul-if1 Inv-loop μ-loop
 mul-if1 c = search needs

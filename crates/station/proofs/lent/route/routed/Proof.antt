@@ -1,5 +1,5 @@
 -- Right because each call goes by its id, a frame by its source.
-use Rattle.station.specs.lent.Lent.{routeOf}
+use Rattle.station.specs.lent.Lent.{routedOf}
 use borrow.Author.Needs.{needs}
 use Rattle.station.proofs.lent.route.routed.Statement.{statement}
 use Rattle.station.proofs.lent.route.routed.Tie as tie
@@ -44,27 +44,27 @@ route-to-requires-4 : tie.Need-route-to-requires-4
 route-to-requires-4 c κs = search needs
 
 returns : tie.Need-returns
-unfolding routeOf
+unfolding routedOf
 returns c = (rw (c .before .before .before .call .given .1, ← c .before .registration-of .ensures) (c .route-new .ensures .0), c .route-new .ensures .1)
 
 returns-2 : tie.Need-returns-2
-unfolding routeOf
+unfolding routedOf
 returns-2 c = (rw (c .before .before .call2 .given .1) (c .route-to .ensures .0), c .route-to .ensures .1)
 
 returns-3 : tie.Need-returns-3
-unfolding routeOf
+unfolding routedOf
 returns-3 c = (rw (c .before .before .call3 .given .1) (c .route-to2 .ensures .0), c .route-to2 .ensures .1)
 
 returns-4 : tie.Need-returns-4
-unfolding routeOf
+unfolding routedOf
 returns-4 c = (rw (c .before .enum-told .given .1) (c .route-frame .ensures .0), c .route-frame .ensures .1)
 
 returns-5 : tie.Need-returns-5
-unfolding routeOf
+unfolding routedOf
 returns-5 c = (rw (c .before .before .call4 .given .1) (c .route-to3 .ensures .0), c .route-to3 .ensures .1)
 
 returns-6 : tie.Need-returns-6
-unfolding routeOf
+unfolding routedOf
 returns-6 c = (rw (c .before .before .call5 .given .1) (c .route-to4 .ensures .0), c .route-to4 .ensures .1)
 
 pub routed-spec : {M : Type 1} → statement M

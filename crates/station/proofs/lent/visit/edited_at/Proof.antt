@@ -1,5 +1,5 @@
 -- Right because the state, the edit and what is said are those of the read reply heard.
-use Rattle.station.specs.lent.Lent.{editedOf}
+use Rattle.station.specs.lent.Lent.{editedAt}
 use borrow.Author.Needs.{needs}
 use Rattle.station.proofs.lent.visit.edited_at.Statement.{statement}
 use Rattle.station.proofs.lent.visit.edited_at.Tie as tie
@@ -14,7 +14,7 @@ told-requires : tie.Need-told-requires
 told-requires c κs = search needs
 
 returns : tie.Need-returns
-unfolding editedOf
+unfolding editedAt
 returns c =
     (rw (c .told .ensures, c .before .before .before .hear-read .ensures .0, c .before .before .before .before .time-of .ensures), c .before .before .before .hear-read .ensures .1, c .before .before .before .hear-read .ensures .2)
 

@@ -1,5 +1,5 @@
 -- Right because only a call that has passed is heard.
-use Rattle.station.specs.lent.Lent.{keptOf}
+use Rattle.station.specs.lent.Lent.{keptAt}
 use borrow.Author.Needs.{needs}
 use Rattle.station.proofs.lent.visit.kept_at.Statement.{statement}
 use Rattle.station.proofs.lent.visit.kept_at.Tie as tie
@@ -26,11 +26,11 @@ keep-requires : tie.Need-keep-requires
 keep-requires c κs = search needs
 
 returns : tie.Need-returns
-unfolding keptOf
+unfolding keptAt
 returns c = rw (c .before .before .before .enum-told .given .1, ← c .before .before .time-of .ensures, ← c .before .hear-state .ensures) (c .kept-heard .ensures)
 
 returns-2 : tie.Need-returns-2
-unfolding keptOf
+unfolding keptAt
 returns-2 c = rw (c .before .before .before .said .given .1, ← c .before .refused .ensures) (c .keep .ensures)
 
 pub kept-at-spec : {M : Type 1} → statement M

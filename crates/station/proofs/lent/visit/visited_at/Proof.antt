@@ -1,5 +1,5 @@
 -- Right because only a call that has passed is done.
-use Rattle.station.specs.lent.Lent.{visitedOf}
+use Rattle.station.specs.lent.Lent.{visitedAt}
 use borrow.Author.Needs.{needs}
 use Rattle.station.proofs.lent.visit.visited_at.Statement.{statement}
 use Rattle.station.proofs.lent.visit.visited_at.Tie as tie
@@ -20,11 +20,11 @@ leave-requires : tie.Need-leave-requires
 leave-requires c κs = search needs
 
 returns : tie.Need-returns
-unfolding visitedOf
+unfolding visitedAt
 returns c = rw (c .before .enum-told .given .1) (c .done-at .ensures)
 
 returns-2 : tie.Need-returns-2
-unfolding visitedOf
+unfolding visitedAt
 returns-2 c = rw (c .before .before .before .said .given .1, ← c .before .refused .ensures) (c .leave .ensures)
 
 pub visited-at-spec : {M : Type 1} → statement M

@@ -5,11 +5,11 @@ use lib.Seq.{length-take-le}
 use borrow.Author.Tests.{le-leb, lt-leb, lt-ltb, le-ltb}
 use Rattle.bytes.specs.Bytes.{indexOf}
 use Rattle.text.proofs.Reading.{to-end}
-use Rattle.session.specs.Heard.{frameIn}
+use Rattle.session.specs.Heard.{loggedFrame}
 use Rattle.session.proofs.Reading.{whole}
 use borrow.Author.Needs.{needs}
-use Rattle.session.proofs.heard.frame_in.Statement.{statement}
-use Rattle.session.proofs.heard.frame_in.Tie as tie
+use Rattle.session.proofs.heard.logged_frame.Statement.{statement}
+use Rattle.session.proofs.heard.logged_frame.Tie as tie
 
 find-requires : tie.Need-find-requires
 find-requires c κs = search needs
@@ -18,7 +18,7 @@ bad-requires : tie.Need-bad-requires
 bad-requires c κs = search needs
 
 returns : tie.Need-returns
-unfolding frameIn
+unfolding loggedFrame
 returns c =
     let d = c .before in
     let p = d .before in
@@ -42,7 +42,7 @@ bad-requires-2 : tie.Need-bad-requires-2
 bad-requires-2 c κs = search needs
 
 returns-2 : tie.Need-returns-2
-unfolding frameIn
+unfolding loggedFrame
 returns-2 c =
     let d = c .before in
     let p = d .before .before .before .before .before in
@@ -54,7 +54,7 @@ bad-requires-3 : tie.Need-bad-requires-3
 bad-requires-3 c κs = search needs
 
 returns-3 : tie.Need-returns-3
-unfolding frameIn
+unfolding loggedFrame
 returns-3 c =
     let d = c .before in
     let p = d .before .before .before .before .before .before .before in
@@ -81,15 +81,15 @@ data-frame-requires : tie.Need-data-frame-requires
 data-frame-requires c κs = search needs
 
 returns-4 : tie.Need-returns-4
-unfolding frameIn
+unfolding loggedFrame
 returns-4 c =
     let p = c .before .before .before .before .before .before .before .before .before .before in
     let w = p .before .before .args .w .now in
     let f : p .find .result ≡ indexOf 0x23 w = p .find .ensures .0 ∙ whole 0x23 w in
     rw (← f, lt-leb _ _ (c .before .before .before .before .before .before .before .before .before .if1 .left), ← c .before .before .before .before .before .before .before .id-of .ensures, c .before .before .before .before .before .id .given .1, le-ltb _ _ (c .before .before .before .if2 .left), ← c .before .low32 .ensures, ← to-end (p .find .result + 1) w) (c .data-frame .ensures)
 
-pub frame-in-spec : {M : Type 1} → statement M
-frame-in-spec =
+pub logged-frame-spec : {M : Type 1} → statement M
+logged-frame-spec =
     tie.close
     (tie.spec
     find-requires

@@ -5,8 +5,8 @@ use mir.Syntax.{w8}
 use lib.IntN.{ℤ}
 use mathlib.Core.Path.{ap, _∙_}
 use borrow.Author.Needs.{needs}
-use Rattle.codec_abi.proofs.parameters.bits_of.Statement.{statement}
-use Rattle.codec_abi.proofs.parameters.bits_of.Tie as tie
+use Rattle.codec_abi.proofs.parameters.raw_of.Statement.{statement}
+use Rattle.codec_abi.proofs.parameters.raw_of.Tie as tie
 
 enum-known-value : tie.Need-enum-known-value
 enum-known-value c = search needs
@@ -53,8 +53,8 @@ returns-4 c = search needs
 returns-5 : tie.Need-returns-5
 returns-5 c = search needs
 
-pub bits-of-spec : {M : Type 1} → statement M
-bits-of-spec =
+pub raw-of-spec : {M : Type 1} → statement M
+raw-of-spec =
     tie.close
     (tie.spec
     enum-known-value

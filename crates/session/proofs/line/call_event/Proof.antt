@@ -1,9 +1,9 @@
 -- Right because each arm is the definition's.
 use borrow.Author.Tests.{ne-eqb}
-use Rattle.session.specs.Lines.{callAt}
+use Rattle.session.specs.Lines.{callEvent}
 use borrow.Author.Needs.{needs}
-use Rattle.session.proofs.line.call_of.Statement.{statement}
-use Rattle.session.proofs.line.call_of.Tie as tie
+use Rattle.session.proofs.line.call_event.Statement.{statement}
+use Rattle.session.proofs.line.call_event.Tie as tie
 
 bare-requires : tie.Need-bare-requires
 bare-requires c κs = search needs
@@ -51,33 +51,33 @@ bare-requires-4 : tie.Need-bare-requires-4
 bare-requires-4 c κs = search needs
 
 returns : tie.Need-returns
-unfolding callAt
+unfolding callEvent
 returns c = rw (c .before .match .keys1) (c .bare .ensures)
 
 returns-2 : tie.Need-returns-2
-unfolding callAt
+unfolding callEvent
 returns-2 c = rw (c .before .before .match .keys2, ← c .before .word .ensures) (c .registered .ensures)
 
 returns-3 : tie.Need-returns-3
-unfolding callAt
+unfolding callEvent
 returns-3 c = rw (c .before .before .match .keys3, ← c .before .low16 .ensures) (c .bare2 .ensures)
 
 returns-4 : tie.Need-returns-4
-unfolding callAt
+unfolding callEvent
 returns-4 c = rw (c .before .match .keys4) (c .any-frame .ensures)
 
 returns-5 : tie.Need-returns-5
-unfolding callAt
+unfolding callEvent
 returns-5 c = rw (c .before .before .match .keys5, ← c .before .low162 .ensures) (c .bare3 .ensures)
 
 returns-6 : tie.Need-returns-6
-unfolding callAt
+unfolding callEvent
 returns-6 c =
     let p1 = c .before .before in
     rw (ne-eqb _ _ (p1 .match .rest .0 .0 .0 .0 .1), ne-eqb _ _ (p1 .match .rest .0 .0 .0 .1), ne-eqb _ _ (p1 .match .rest .0 .0 .1), ne-eqb _ _ (p1 .match .rest .0 .1), ne-eqb _ _ (p1 .match .rest .1), ← c .before .low163 .ensures) (c .bare4 .ensures)
 
-pub call-of-spec : {M : Type 1} → statement M
-call-of-spec =
+pub call-event-spec : {M : Type 1} → statement M
+call-event-spec =
     tie.close
     (tie.spec
     bare-requires

@@ -8,8 +8,8 @@ use native.Mathlib.Omega.{arith}
 use lib.ListN.{length, drop}
 use Rattle.text.specs.Words.{sameBytes}
 use Rattle.text.proofs.Reading.{unlike-lengths, from-place, at-end}
-use Rattle.text.proofs.words.same.Statement.{statement}
-use Rattle.text.proofs.words.same.Tie as tie
+use Rattle.text.proofs.words.same_bytes.Statement.{statement}
+use Rattle.text.proofs.words.same_bytes.Tie as tie
 
 abbrev Inv-loop : tie.InvT-loop
 Inv-loop a b i₀ i = (i ≤ length a) × (length a ≡ length b) × (sameBytes a b ≡ sameBytes (drop i a) (drop i b))
@@ -57,8 +57,8 @@ returns-3 c =
     let e : l .loop .i ≡ length a = omega arith in
     sym (l .loop .inv .2 ∙ rw e (at-end a b (l .loop .inv .1)))
 
-pub same-spec : {M : Type 1} → statement M
-same-spec =
+pub same-bytes-spec : {M : Type 1} → statement M
+same-bytes-spec =
     tie.close
     (tie.spec
     Inv-loop

@@ -1,7 +1,7 @@
 -- Right because each arm answers for its case.
 use borrow.Author.Needs.{needs}
-use Rattle.answers.proofs.looks.is_none.Statement.{statement}
-use Rattle.answers.proofs.looks.is_none.Tie as tie
+use Rattle.answers.proofs.looks.is_idle.Statement.{statement}
+use Rattle.answers.proofs.looks.is_idle.Tie as tie
 
 enum-told : tie.Need-enum-told
 enum-told c = search needs
@@ -21,5 +21,5 @@ returns-2 c = rw (c .enum-told2 .given .1)
 returns-3 : tie.Need-returns-3
 returns-3 c = rw (c .enum-told3 .given .1)
 
-pub is-none-spec : {M : Type 1} → statement M
-is-none-spec = tie.close (tie.spec enum-told enum-told-2 enum-told-3 returns returns-2 returns-3)
+pub is-idle-spec : {M : Type 1} → statement M
+is-idle-spec = tie.close (tie.spec enum-told enum-told-2 enum-told-3 returns returns-2 returns-3)

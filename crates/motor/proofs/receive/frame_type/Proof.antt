@@ -2,8 +2,8 @@
 use borrow.Author.Needs.{needs}
 use mathlib.Core.Path.{ap}
 use Rattle.codec.specs.declared.protocol.IdParts.{IdParts}
-use Rattle.motor.proofs.receive.type_of.Statement.{statement}
-use Rattle.motor.proofs.receive.type_of.Tie as tie
+use Rattle.motor.proofs.receive.frame_type.Statement.{statement}
+use Rattle.motor.proofs.receive.frame_type.Tie as tie
 
 ext-id-parts-requires : tie.Need-ext-id-parts-requires
 ext-id-parts-requires c κs = search needs
@@ -11,5 +11,5 @@ ext-id-parts-requires c κs = search needs
 returns : tie.Need-returns
 returns c = ap (λ (p : IdParts). p .«comm_type») (c .ext-id-parts .ensures)
 
-pub type-of-spec : {M : Type 1} → statement M
-type-of-spec = tie.close (tie.spec ext-id-parts-requires returns)
+pub frame-type-spec : {M : Type 1} → statement M
+frame-type-spec = tie.close (tie.spec ext-id-parts-requires returns)

@@ -1,8 +1,8 @@
 -- Right because each half is below 2^32, and the two are the definition's.
 use Rattle.answers.specs.Values.{payloadNumber}
 use borrow.Author.Needs.{needs}
-use Rattle.answers.proofs.values.number_of.Statement.{statement}
-use Rattle.answers.proofs.values.number_of.Tie as tie
+use Rattle.answers.proofs.values.payload_number.Statement.{statement}
+use Rattle.answers.proofs.values.payload_number.Tie as tie
 
 array-read-four-of : tie.Need-array-read-four-of
 array-read-four-of c = search needs
@@ -44,8 +44,8 @@ returns : tie.Need-returns
 unfolding payloadNumber
 returns c = rw (c .before .four-of .ensures .0, c .four-of2 .ensures .0)
 
-pub number-of-spec : {M : Type 1} → statement M
-number-of-spec =
+pub payload-number-spec : {M : Type 1} → statement M
+payload-number-spec =
     tie.close
     (tie.spec
     array-read-four-of
