@@ -68,7 +68,7 @@ pub whole : (b : ℕ) (s : List ℕ) → 0 + indexOf b (slice 0 (length s) s) �
 unfolding slice
 whole b s = rw take-length (omega arith)
 
-drop-past : (n : ℕ) (s : List ℕ) → length s ≤ n → drop n s ≡ []
+pub drop-past : (n : ℕ) (s : List ℕ) → length s ≤ n → drop n s ≡ []
 drop-past n [] h = drop-nil n
 drop-past zero (b ∷ s) h = absurd (omega arith)
 drop-past (suc n) (b ∷ s) h = drop-past n s (omega arith)
@@ -147,9 +147,6 @@ unfolding whichOf
 which-later names zero w z e = absurd (z refl)
 which-later names (suc n) w z e = let p : suc n - 1 ≡ n = omega arith in rw (p, e)
 
--- what follows the first space, and where there is none
+-- what follows the first space
 pub past-first : (s : List ℕ) (e : ℕ) → e ≡ 0 + indexOf 32 (slice 0 (length s) s) → drop (e + 1) s ≡ pastWord s
 past-first s e f = rw (f, whole 32 s)
-
-pub past-none : (s : List ℕ) (e : ℕ) → e ≡ 0 + indexOf 32 (slice 0 (length s) s) → length s ≤ e → drop e s ≡ pastWord s
-past-none s e f h = drop-past e s h ∙ sym (drop-past (e + 1) s (omega arith)) ∙ past-first s e f

@@ -1,8 +1,9 @@
 // The words of a line. Words are parted by single spaces, so a line has one word more than it has
 // spaces, and two spaces together part an empty word.
 ghost use mathlib.Core.Path.{_≡_};
-ghost use Prim.Native.Nat.{_≤_};
-ghost use Rattle.text.specs.Words.{wordCount, partAt, wordAt, pastWord, sameBytes, whichOf};
+ghost use Prim.Native.Nat.{_+_, _≤_};
+ghost use lib.ListN.{drop};
+ghost use Rattle.text.specs.Words.{wordCount, partAt, wordAt, sameBytes, whichOf};
 
 // How many words s has.
 pub fn word_count(s: &[u8]) -> usize
@@ -40,15 +41,14 @@ pub fn part(s: &[u8], b: u8, k: usize) -> &[u8]
     &s[end..]
 }
 
-// What follows the first space of s; nothing where there is none.
-fn past_word(s: &[u8]) -> &[u8]
-    ensures { λ r. ⌜ now r ≡ pastWord (now (s .entry)) ⌝ }
+// What follows place k of s; nothing where s ends before.
+fn past(s: &[u8], k: usize) -> &[u8]
+    ensures { λ r. ⌜ now r ≡ drop (k + 1) (now (s .entry)) ⌝ }
 {
-    let end = bytes::scan::find(s, 0, s.len(), b' ');
-    if end < s.len() {
-        return &s[end + 1..];
+    if k < s.len() {
+        return &s[k + 1..];
     }
-    &s[end..]
+    &s[s.len()..]
 }
 
 // Whether two words are the same bytes.
@@ -75,8 +75,9 @@ pub fn which(names: &[u8], n: usize, w: &[u8]) -> usize
     if n == 0 {
         return 0;
     }
-    if same_bytes(w, word(names, 0)) {
+    let end = bytes::scan::find(names, 0, names.len(), b' ');
+    if same_bytes(w, &names[..end]) {
         return 0;
     }
-    1 + which(past_word(names), n - 1, w)
+    1 + which(past(names, end), n - 1, w)
 }
