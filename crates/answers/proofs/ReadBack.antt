@@ -1,5 +1,5 @@
 -- What is printed is read back by session: a command's name as its row, a frame as that frame. Assumes nothing.
-use Prim.Native.Nat.{ℕ, suc, _+_, _*_, _-_, _/_, _%_, _^_, _≤_, _<_}
+use Prim.Native.Nat.{ℕ, zero, suc, _+_, _*_, _-_, _/_, _%_, _^_, _≤_, _<_}
 use mathlib.Core.Path.{_≡_, refl, ap, _∙_}
 use mathlib.Core.Bool.{true}
 use mathlib.Core.List.{List, [], _∷_, _++_, append-nil, append-assoc}
@@ -18,8 +18,7 @@ use Rattle.text.specs.Put.{glyphOf, digitsText, decimalIn}
 use Rattle.text.specs.Words.{wordCount, wordAt, whichOf, sameBytes}
 use Rattle.text.proofs.Reading.{some}
 use Rattle.text.proofs.ReadBack.{glyph-range, read-glyph, read-digits, digits-length, digits-back, decimal-some, decimal-back, index-past, free-append, digits-free, decimal-free, word-first, word-later, word-only, words-past}
-use Rattle.session.specs.declared.event.Event.{Event}
-use Rattle.session.specs.declared.event.Event.the-variants as event
+use Rattle.session.specs.Events.{payload, canFrame, hands}
 use Rattle.session.specs.Table.{commands, placeOf}
 use Rattle.session.specs.Commands.{commandOf, driven, parameterOf, startedBy, started}
 use Rattle.session.specs.Heard.{millisecondsOf, stampIn, stampOf, shiftedBy, dataOf, dataFrame, loggedFrame, heardIn}
@@ -220,3 +219,42 @@ frame-read-back f time s b h =
     ∙ ap heardIn e
     ∙ heard-back (stampOfTime time) (frameWord id n) time (stamp-free time) (frame-free id n) (stamp-back time h)
     ∙ frame-back time id n s (payload-below (f .data) b)
+
+-- eight bytes as one number, and apart again
+bytes-back : (a b c d e f g h : ℕ) → a < 256 → b < 256 → c < 256 → d < 256 → e < 256 → f < 256 → g < 256 → h < 256
+    → payload (payloadNumber (a ∷ b ∷ c ∷ d ∷ e ∷ f ∷ g ∷ h ∷ [])) ≡ a ∷ b ∷ c ∷ d ∷ e ∷ f ∷ g ∷ h ∷ []
+unfolding payloadNumber
+bytes-back a b c d e f g h la lb lc ld le lf lg lh =
+    let n = payloadNumber (a ∷ b ∷ c ∷ d ∷ e ∷ f ∷ g ∷ h ∷ []) in
+    let pa : n / 0x0100_0000_0000_0000 % 2 ^ 8 ≡ a = omega arith in
+    let pb : n / 0x0001_0000_0000_0000 % 2 ^ 8 ≡ b = omega arith in
+    let pc : n / 0x0000_0100_0000_0000 % 2 ^ 8 ≡ c = omega arith in
+    let pd : n / 0x0000_0001_0000_0000 % 2 ^ 8 ≡ d = omega arith in
+    let pe : n / 0x0100_0000 % 2 ^ 8 ≡ e = omega arith in
+    let pf : n / 0x0001_0000 % 2 ^ 8 ≡ f = omega arith in
+    let pg : n / 0x0100 % 2 ^ 8 ≡ g = omega arith in
+    let ph : n % 2 ^ 8 ≡ h = omega arith in
+    rw (pa, pb, pc, pd, pe, pf, pg, ph)
+
+module _ (a b c d e f g h : ℕ) (la : a < 256) (lb : b < 256) (lc : c < 256) (ld : d < 256) (le : e < 256) (lf : f < 256) (lg : g < 256) (lh : h < 256) where
+  abbrev eight : List ℕ
+  eight = a ∷ b ∷ c ∷ d ∷ e ∷ f ∷ g ∷ h ∷ []
+
+  eight-below : (i : ℕ) → getD eight i 0 < 256
+  eight-below zero = la
+  eight-below (suc zero) = lb
+  eight-below (suc (suc zero)) = lc
+  eight-below (suc (suc (suc zero))) = ld
+  eight-below (suc (suc (suc (suc zero)))) = le
+  eight-below (suc (suc (suc (suc (suc zero))))) = lf
+  eight-below (suc (suc (suc (suc (suc (suc zero)))))) = lg
+  eight-below (suc (suc (suc (suc (suc (suc (suc zero))))))) = lh
+  eight-below (suc (suc (suc (suc (suc (suc (suc (suc i)))))))) = omega arith
+
+  -- so a frame of eight bytes, extended, that was heard is read back as the very frame, at its time
+  pub same-frame : (id time : ℕ) → id ≤ 0x1FFF_FFFF → time < 18446744073709551616
+      → let x : CanFrame = record { «arbitration_id» = id; «data» = eight; dlc = 8; «is_extended» = true; «is_rx» = true } in
+      readLine (frameLine x time) ≡ hands x time
+  same-frame id time s t =
+      frame-read-back (record { «arbitration_id» = id; «data» = eight; dlc = 8; «is_extended» = true; «is_rx» = true }) time s eight-below t
+      ∙ ap (λ (d : List ℕ). hands (record { «arbitration_id» = id; «data» = d; dlc = 8; «is_extended» = true; «is_rx» = true }) time) (bytes-back a b c d e f g h la lb lc ld le lf lg lh)
