@@ -141,19 +141,15 @@ def source(crate: str) -> str:
 
 
 def compiled(first: str) -> dict[str, str]:
-    """The table of crates/session/src that begins with a name: one constant with names and shapes by turns, or one of names and,
-    as the next constant, one of shapes. A name without a shape has the empty one."""
+    """The table of crates/session/src that begins with a name: one constant, names and shapes by turns."""
     constants = re.findall(r'b"([^"]*)"', source("session"))
-    found = [place for place, text in enumerate(constants) if text.startswith(f"{first} ")]
+    found = [text for text in constants if text.startswith(f"{first} ")]
     assert len(found) == 1, f"{len(found)} constants of crates/session/src begin with {first!r}"
-    words = constants[found[0]].split(" ")
-    if re.fullmatch("[A-Z]*", words[1]):
-        names, shapes = words[::2], words[1::2]
-    else:
-        names, shapes = words, constants[found[0] + 1].split(" ")
+    words = found[0].split(" ")
+    names, shapes = words[::2], words[1::2]
     assert all(re.fullmatch("[a-z0-9_]+", name) for name in names), names
     assert all(re.fullmatch("[A-Z]*", shape) for shape in shapes), shapes
-    return {name: shapes[place] if place < len(shapes) else "" for place, name in enumerate(names)}
+    return dict(zip(names, shapes, strict=True))
 
 
 READ = "frame 100 0x110001FD {}0000{} 1 8 1"  # a reply to a read: the parameter and the value

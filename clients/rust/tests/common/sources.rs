@@ -3,33 +3,21 @@ use super::repository;
 use std::fs;
 use std::path::Path;
 
-/// The table of crates/session/src that begins with a name: one constant with names and shapes by turns,
-/// or one of names and, as the next constant, one of shapes. A name without a shape has the empty one.
+/// The table of crates/session/src that begins with a name: one constant, names and shapes by turns.
 pub fn compiled(first: &str) -> Vec<(String, String)> {
-    let constants = constants();
     let begins = |text: &String| text.split(' ').next() == Some(first) && text.contains(' ');
-    let found: Vec<usize> = (0..constants.len())
-        .filter(|k| begins(&constants[*k]))
-        .collect();
+    let found: Vec<String> = constants().into_iter().filter(begins).collect();
     assert_eq!(found.len(), 1, "constants that begin with {first:?}");
-    let words: Vec<&str> = constants[found[0]].split(' ').collect();
-    let is_shape = |word: &str| word.bytes().all(|byte| byte.is_ascii_uppercase());
-    let (names, shapes): (Vec<&str>, Vec<&str>) = match is_shape(words[1]) {
-        true => (
-            words.iter().copied().step_by(2).collect(),
-            words.iter().copied().skip(1).step_by(2).collect(),
-        ),
-        false => {
-            let next = constants.get(found[0] + 1).expect("the shapes");
-            (words, next.split(' ').collect())
-        }
+    let words: Vec<&str> = found[0].split(' ').collect();
+    let row = |pair: &[&str]| {
+        assert_eq!(pair.len(), 2, "a name without a shape: {pair:?}");
+        assert!(
+            pair[1].bytes().all(|byte| byte.is_ascii_uppercase()),
+            "{pair:?}"
+        );
+        (pair[0].to_string(), pair[1].to_string())
     };
-    assert!(shapes.iter().all(|shape| is_shape(shape)), "{shapes:?}");
-    let row = |(k, name): (usize, &&str)| {
-        let shape = shapes.get(k).copied().unwrap_or_default();
-        (name.to_string(), shape.to_string())
-    };
-    names.iter().enumerate().map(row).collect()
+    words.chunks(2).map(row).collect()
 }
 
 /// The cases of `enum Refusal` in crates/codec/src, in the order of their numbers, and whether they carry
