@@ -22,7 +22,6 @@ PREPOSITIONS = ("Of", "In", "At", "By", "To")
 TESTS_ONLY = ("codec_abi", "station_abi", "vectors")
 # a function that promises another function's definition, and why
 PROMISED = {
-    "motor/src/receive.rt read_heard": "process_feedback_frame, where the frame is a read reply",
 }
 # a name that several types have, and why
 TYPES = {

@@ -7,12 +7,13 @@ use lib.ListN.{getD}
 use Rattle.codec.specs.declared.error.Refusal.the-variants.{UnknownProtocol, NotPingReply, NotVersionReply}
 use Rattle.codec.specs.declared.error.Checked.{Checked}
 use Rattle.codec.specs.declared.error.Checked.the-variants.{Passed, Refused}
+use Rattle.codec.specs.declared.protocol.IdParts.{IdParts}
 use Rattle.codec.specs.declared.protocol.SetProtocol.{SetProtocol}
 use Rattle.codec.specs.declared.replies.PingReply.{PingReply}
 use Rattle.codec.specs.declared.replies.PingAnswer.{PingAnswer}
 use Rattle.codec.specs.declared.replies.VersionReply.{VersionReply}
 use Rattle.codec.specs.declared.replies.VersionAnswer.{VersionAnswer}
-use Rattle.codec.specs.Ids.{typeOf, extraOf, nodeOf}
+use Rattle.codec.specs.Ids.{typeOf, extraOf, extIdParts}
 
 abbrev pub zeros : List ℕ
 zeros = 0 ∷ 0 ∷ 0 ∷ 0 ∷ 0 ∷ 0 ∷ 0 ∷ 0 ∷ []
@@ -53,8 +54,9 @@ decodeVersionReply id payload = cond (isVersionReply id payload) (passedVersion 
 
 -- ---- ping
 
-abbrev pub pingReply : ℕ → List ℕ → PingReply
-pingReply id payload = record { «device_id» = extraOf id % 256; «responder_id» = nodeOf id; payload = payload }
+-- by the parts of its id
+abbrev pub pingReply : IdParts → List ℕ → PingReply
+pingReply p payload = record { «device_id» = p .«extra_data» % 256; «responder_id» = p .«node_id»; payload = payload }
 
 -- 22: not a ping reply
 abbrev pub notPingReply : PingAnswer
@@ -64,4 +66,4 @@ abbrev pub passedPing : PingReply → PingAnswer
 passedPing reply = record { said = Passed; reply = reply }
 
 abbrev pub decodePingReply : ℕ → List ℕ → PingAnswer
-decodePingReply id payload = cond (eqb (typeOf id) 0) (passedPing (pingReply id payload)) notPingReply
+decodePingReply id payload = cond (eqb (typeOf id) 0) (passedPing (pingReply (extIdParts id) payload)) notPingReply

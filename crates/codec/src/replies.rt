@@ -2,9 +2,10 @@
 use crate::error::Checked;
 use crate::error::Refusal;
 use crate::protocol::CommunicationType;
+use crate::protocol::IdParts;
 use crate::protocol::ext_id_parts;
 ghost use mathlib.Core.Path.{_≡_};
-ghost use Rattle.codec.specs.Replies.{encodeVersionRequest, isVersionReply, notVersionReply, passedVersion, decodeVersionReply, notPingReply, passedPing, decodePingReply};
+ghost use Rattle.codec.specs.Replies.{encodeVersionRequest, isVersionReply, notVersionReply, passedVersion, decodeVersionReply, pingReply, notPingReply, passedPing, decodePingReply};
 
 pub struct PingReply {
     pub device_id: u8,
@@ -116,6 +117,17 @@ fn passed_ping(reply: PingReply) -> PingAnswer
     }
 }
 
+// What a ping reply tells, its id split already.
+pub fn ping_reply(parts: IdParts, payload: [u8; 8]) -> PingReply
+    ensures { λ r. ⌜ r ≡ pingReply parts payload ⌝ }
+{
+    PingReply {
+        device_id: (parts.extra_data % 256) as u8,
+        responder_id: parts.node_id,
+        payload,
+    }
+}
+
 // A ping reply decoded; 22 if the frame is none.
 pub fn decode_ping_reply(arbitration_id: u32, payload: [u8; 8]) -> PingAnswer
     ensures { λ r. ⌜ r ≡ decodePingReply «arbitration_id» payload ⌝ }
@@ -124,9 +136,5 @@ pub fn decode_ping_reply(arbitration_id: u32, payload: [u8; 8]) -> PingAnswer
     if parts.comm_type != CommunicationType::GET_DEVICE_ID {
         return not_ping_reply();
     }
-    passed_ping(PingReply {
-        device_id: (parts.extra_data % 256) as u8,
-        responder_id: parts.node_id,
-        payload,
-    })
+    passed_ping(ping_reply(parts, payload))
 }

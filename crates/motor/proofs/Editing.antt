@@ -1,6 +1,6 @@
 -- An edit stored gives what the by-value functions give. Assumes nothing.
 use Prim.Native.Nat.{ℕ, zero, suc}
-use mathlib.Core.Path.{_≡_, refl, ap, _∙_}
+use mathlib.Core.Path.{_≡_, refl, sym, ap, subst, _∙_}
 use mathlib.Core.Bool.{Bool, true, false, cond}
 use mathlib.Core.List.{List, [], _∷_}
 use lib.Dec.{ltb, eqb}
@@ -8,6 +8,7 @@ use lib.ListN.{set}
 use lib.Seq.{set-getD}
 use borrow.Author.Tests.{eqb-true, eqb-false}
 use Rattle.codec.specs.declared.bus.CanFrame.{CanFrame}
+use Rattle.codec.specs.declared.error.Checked.{Checked}
 use Rattle.motor.specs.declared.engine.reading.Stored.{Stored}
 use Rattle.motor.specs.declared.motor.Motor.{Motor}
 use Rattle.motor.specs.declared.readings.Reading.{Reading}
@@ -18,9 +19,9 @@ use Rattle.motor.specs.declared.readings.PutResult.{PutResult}
 use Rattle.motor.specs.declared.edits.PutEdit.{PutEdit}
 use Rattle.motor.specs.Limits.{mostReadings}
 use Rattle.motor.specs.Readings.{freeRecord, reading, entryAt, storedAt, withNext, linkedAt, replacedAt, kept, fullOf, addAt, putAt, putOf, seekOf, holderOf}
-use Rattle.motor.specs.Receive.{acceptsFrame, isLate, isRead, readStatus, readId, readStored, heardWith, processFeedbackFrame}
-use Rattle.motor.specs.Edits.{editedBy, noEdit, linkEdit, replaceEdit, keptEdit, fullEdit, addEdit, putEditAt, putEdit, hearRead}
-use Rattle.motor.proofs.Receiving.{heard-13, heard-7, heard-14, heard-15, heard-value}
+use Rattle.motor.specs.Receive.{partsOf, acceptsFrame, isLate, isRead, readStatus, readId, readStored, heardWith, processFeedbackFrame, admittedTo}
+use Rattle.motor.specs.Edits.{editedBy, noEdit, linkEdit, replaceEdit, keptEdit, fullEdit, addEdit, putEditAt, putEdit, readTaken, hearReadBy, hearRead}
+use Rattle.motor.proofs.Receiving.{heard-13, heard-7, heard-14, heard-15, heard-value, admitted-13, admitted-7, admitted}
 
 -- a record stored goes on to where it goes
 set-again : (l : List Reading) (n : ℕ) (x : Reading) → set (set l n x) n (reading (entryAt (set l n x) n) (x .next)) ≡ set l n x
@@ -65,7 +66,7 @@ edit-puts rs id s = go (eqb (holderOf rs id) 0) (eqb (rs .free) 0) (ltb mostRead
 -- a read reply: its edit stored, the readings are those of the by-value call
 pub heard-read : (m : Motor) (f : CanFrame) (now : ℕ) → isRead f ≡ true
     → processFeedbackFrame m f now ≡ heardWith (hearRead m f now .state) (editedBy (m .readings) (hearRead m f now .edit)) (hearRead m f now .said)
-unfolding hearRead
+unfolding readTaken readStatus
 heard-read m f now r = go (acceptsFrame (m .state .«motor_id») f) (isLate (m .state .clock) now) (eqb (readStatus f) 0) (put .said) refl refl refl refl
   where
     put : PutEdit
@@ -74,10 +75,15 @@ heard-read m f now r = go (acceptsFrame (m .state .«motor_id») f) (isLate (m .
     puts : putWith (m .readings) put ≡ putOf (m .readings) (readId f) (readStored f)
     puts = edit-puts (m .readings) (readId f) (readStored f)
 
+    by : Checked → Type 0
+    by k =
+        let h = hearReadBy k m (partsOf f) f now in
+        processFeedbackFrame m f now ≡ heardWith (h .state) (editedBy (m .readings) (h .edit)) (h .said)
+
     go : (a l z : Bool) (k : PutAnswer) → acceptsFrame (m .state .«motor_id») f ≡ a → isLate (m .state .clock) now ≡ l → eqb (readStatus f) 0 ≡ z → put .said ≡ k
-        → processFeedbackFrame m f now ≡ heardWith (hearRead m f now .state) (editedBy (m .readings) (hearRead m f now .edit)) (hearRead m f now .said)
-    go false l z k p q s e = rw (heard-13 m f now p, p, no-edit)
-    go true true z k p q s e = rw (heard-7 m f now p q, p, q, no-edit)
-    go true false false k p q s e = rw (heard-14 m f now p q r (eqb-false _ _ s), p, q, s, no-edit)
-    go true false true Kept p q s e = rw (heard-value m f now p q r (eqb-true _ _ s) (putWith (m .readings) put) puts e, p, q, s, e)
-    go true false true Full p q s e = rw (heard-15 m f now p q r (eqb-true _ _ s) (putWith (m .readings) put) puts e, p, q, s, e, no-edit)
+        → by (admittedTo (m .state) (partsOf f) f now)
+    go false l z k p q s e = subst by (sym (admitted-13 (m .state) f now p)) (rw (heard-13 m f now p, no-edit))
+    go true true z k p q s e = subst by (sym (admitted-7 (m .state) f now p q)) (rw (heard-7 m f now p q, no-edit))
+    go true false false k p q s e = subst by (sym (admitted (m .state) f now p q)) (rw (heard-14 m f now p q r (eqb-false _ _ s), s, no-edit))
+    go true false true Kept p q s e = subst by (sym (admitted (m .state) f now p q)) (rw (heard-value m f now p q r (eqb-true _ _ s) (putWith (m .readings) put) puts e, s, e))
+    go true false true Full p q s e = subst by (sym (admitted (m .state) f now p q)) (rw (heard-15 m f now p q r (eqb-true _ _ s) (putWith (m .readings) put) puts e, s, e, no-edit))

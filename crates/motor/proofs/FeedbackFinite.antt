@@ -28,7 +28,7 @@ use Rattle.motor.specs.declared.feedback.Latest.{Latest}
 use Rattle.motor.specs.declared.feedback.Latest.the-variants as latest
 use Rattle.motor.specs.declared.motor.State.{State}
 use Rattle.motor.specs.declared.motor.Motor.{Motor}
-use Rattle.motor.specs.Receive.{frameType, countedAt, feedbackIn, update, feedbackAfter, toldBy, stateAfter, processFeedbackFrame}
+use Rattle.motor.specs.Receive.{partsOf, frameType, countedAt, feedbackIn, update, feedbackAfter, toldBy, stateAfter, processFeedbackFrame}
 use Rattle.codec.proofs.Rounded.{U, rounded, rounded-mono, rounded-value}
 use Rattle.codec.proofs.Steps.{quotient}
 
@@ -164,7 +164,7 @@ Bytes payload = (i : ℕ) → getD payload i 0 < 256
 raw-le : (payload : List ℕ) → Bytes payload → (i : ℕ) → be16 payload i ≤ 65536
 raw-le payload h i = omega (arith, h i, h (i + 1))
 
-pub told-finite : (model : Model) (f : CanFrame) → Bytes (f .data) → Finite (feedbackIn model f)
+pub told-finite : (model : Model) (f : CanFrame) → Bytes (f .data) → Finite (feedbackIn model (partsOf f) f)
 unfolding feedbackIn
 told-finite model f h =
     let l = limits-within model in
@@ -185,7 +185,7 @@ module _ (f : CanFrame) (now : ℕ) (h : Bytes (f .data)) where
   unfolding stateAfter toldBy countedAt feedbackAfter
   state-finite Passed s k = go (eqb (frameType f) 2 || eqb (frameType f) 24)
     where
-      go : (b : Bool) → FiniteIn (cond b (update (s .feedback) (feedbackIn (s .model) f)) (s .feedback) .latest)
+      go : (b : Bool) → FiniteIn (cond b (update (s .feedback) (feedbackIn (s .model) (partsOf f) f)) (s .feedback) .latest)
       go true = told-finite (s .model) f h
       go false = k
   state-finite (Refused r) s k = go (among (numberOf r) (14 ∷ 15 ∷ []))

@@ -14,7 +14,7 @@ use Rattle.motor.specs.declared.feedback.Latest.the-variants as latest
 use Rattle.motor.specs.declared.motor.HeldFault.the-variants as fault
 use Rattle.motor.specs.declared.motor.Motor.{Motor}
 use Rattle.motor.specs.declared.readings.Readings.{Readings}
-use Rattle.motor.specs.Receive.{acceptsFrame, isLate, countedAt, pingAfter, feedbackIn, nextSequence, feedbackAfter, faultAfter, toldBy, isRead, frameSaid, stateAfter, readingsAfter, processFeedbackFrame}
+use Rattle.motor.specs.Receive.{partsOf, acceptsFrame, isLate, countedAt, pingAfter, feedbackIn, nextSequence, feedbackAfter, faultAfter, toldBy, isRead, frameSaid, stateAfter, readingsAfter, processFeedbackFrame}
 
 abbrev frame : ℕ → List ℕ → CanFrame
 frame id payload = record { «arbitration_id» = id; «data» = payload; dlc = 8; «is_extended» = true; «is_rx» = true }
@@ -60,6 +60,6 @@ module _ (operation : Operation) (command : Command) (readings : Readings) where
   version = frame 0x020001FD (0x00 ∷ 0xC4 ∷ 0x56 ∷ 1 ∷ 2 ∷ 3 ∷ 4 ∷ 0 ∷ [])
 
   pub version-is-feedback : (isVersionReply 0x020001FD (version .data) ≡ true)
-      × (processFeedbackFrame (motor 7 3) version 100 .motor .state .feedback ≡ record { latest = latest.State (feedbackIn Rs00 version); sequence = 4 })
+      × (processFeedbackFrame (motor 7 3) version 100 .motor .state .feedback ≡ record { latest = latest.State (feedbackIn Rs00 (partsOf version) version); sequence = 4 })
   unfolding processFeedbackFrame frameSaid stateAfter acceptsFrame isLate among countedAt toldBy feedbackAfter nextSequence isRead
   version-is-feedback = (refl, refl)

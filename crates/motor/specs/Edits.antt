@@ -3,9 +3,10 @@ use Prim.Native.Nat.{ℕ}
 use mathlib.Core.Bool.{cond}
 use lib.Dec.{ltb, eqb}
 use Rattle.codec.specs.declared.bus.CanFrame.{CanFrame}
-use Rattle.codec.specs.declared.error.Refusal.the-variants.{FrameNotAccepted, TimeOutOfRange, ReadFailed, ReadingsFull}
+use Rattle.codec.specs.declared.error.Refusal.the-variants.{ReadFailed, ReadingsFull}
 use Rattle.codec.specs.declared.error.Checked.{Checked}
 use Rattle.codec.specs.declared.error.Checked.the-variants.{Passed, Refused}
+use Rattle.codec.specs.declared.protocol.IdParts.{IdParts}
 use Rattle.motor.specs.declared.engine.reading.Stored.{Stored}
 use Rattle.motor.specs.declared.motor.State.{State}
 use Rattle.motor.specs.declared.motor.Motor.{Motor}
@@ -17,7 +18,7 @@ use Rattle.motor.specs.declared.edits.PutEdit.{PutEdit}
 use Rattle.motor.specs.declared.edits.ReadHeard.{ReadHeard}
 use Rattle.motor.specs.Limits.{mostReadings}
 use Rattle.motor.specs.Readings.{entry, reading, recAt, nextAt, storedAt, withNext, seekOf, holderOf}
-use Rattle.motor.specs.Receive.{acceptsFrame, isLate, countedAt, readStatus, readId, readStored}
+use Rattle.motor.specs.Receive.{partsOf, admittedTo, countedAt, statusIn, readId, readStored}
 
 -- the readings once the edit is stored
 unfoldable pub editedBy : Readings → Edit → Readings
@@ -70,13 +71,18 @@ abbrev pub readPut : State → Readings → Edit → PutAnswer → ReadHeard
 readPut state rs e Kept = record { state = state; edit = e; said = Passed }
 readPut state rs e Full = readKept state rs (Refused ReadingsFull)
 
-unfoldable pub hearRead : Motor → CanFrame → ℕ → ReadHeard
-hearRead m f now =
-    let s = m .state in
-    let rs = m .readings in
+-- counted, its status is looked at: 14, 15
+unfoldable pub readTaken : State → Readings → ℕ → CanFrame → ReadHeard
+readTaken state rs status f =
     let put = putEdit rs (readId f) (readStored f) in
-    cond (acceptsFrame (s .«motor_id») f)
-    (cond (isLate (s .clock) now) (readKept s rs (Refused TimeOutOfRange))
-    (cond (eqb (readStatus f) 0) (readPut (countedAt s now) rs (put .edit) (put .said))
-    (readKept (countedAt s now) rs (Refused (ReadFailed (readId f) (readStatus f))))))
-    (readKept s rs (Refused FrameNotAccepted))
+    cond (eqb status 0) (readPut state rs (put .edit) (put .said)) (readKept state rs (Refused (ReadFailed (readId f) status)))
+
+abbrev pub hearReadBy : Checked → Motor → IdParts → CanFrame → ℕ → ReadHeard
+hearReadBy Passed m p f now = readTaken (countedAt (m .state) now) (m .readings) (statusIn p) f
+hearReadBy (Refused r) m p f now = readKept (m .state) (m .readings) (Refused r)
+
+abbrev pub hearReadSplit : Motor → IdParts → CanFrame → ℕ → ReadHeard
+hearReadSplit m p f now = hearReadBy (admittedTo (m .state) p f now) m p f now
+
+abbrev pub hearRead : Motor → CanFrame → ℕ → ReadHeard
+hearRead m f now = hearReadSplit m (partsOf f) f now

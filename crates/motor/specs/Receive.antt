@@ -1,7 +1,7 @@
 -- Receiving: what a frame does to what a motor holds, and what it answers. Definitions only.
 use Prim.Native.Nat.{ℕ, _+_, _-_, _*_, _/_, _%_, _^_, min}
 use mathlib.Core.Bool.{Bool, true, false, cond, not, _&&_, _||_}
-use mathlib.Core.List.{List, [], _∷_}
+use mathlib.Core.List.{List, [], _∷_, _++_}
 use lib.Dec.{eqb, ltb}
 use lib.ListN.{getD}
 use Rattle.codec.specs.declared.bus.CanFrame.{CanFrame}
@@ -10,9 +10,10 @@ use Rattle.codec.specs.declared.error.Refusal.the-variants.{FrameNotAccepted, T
 use Rattle.codec.specs.declared.error.Checked.{Checked}
 use Rattle.codec.specs.declared.error.Checked.the-variants.{Passed, Refused}
 use Rattle.codec.specs.declared.model.Model.{Model}
+use Rattle.codec.specs.declared.protocol.IdParts.{IdParts}
 use Rattle.codec.specs.declared.status.StatusFrame.{StatusFrame}
 use Rattle.codec.specs.Refusals.{numberOf}
-use Rattle.codec.specs.Ids.{typeOf, extraOf}
+use Rattle.codec.specs.Ids.{extIdParts}
 use Rattle.codec.specs.Kinds.{among}
 use Rattle.codec.specs.Models.{limitsOf}
 use Rattle.codec.specs.Status.{decodeStatusFrame}
@@ -31,21 +32,30 @@ use Rattle.motor.specs.declared.engine.reading.Stored.{Stored}
 use Rattle.motor.specs.declared.readings.Readings.{Readings}
 use Rattle.motor.specs.declared.readings.PutAnswer.{PutAnswer}
 use Rattle.motor.specs.declared.readings.PutAnswer.the-variants.{Kept, Full}
+use Rattle.motor.specs.declared.receive.Arrival.{Arrival}
 use Rattle.motor.specs.declared.receive.Heard.{Heard}
 use Rattle.motor.specs.declared.quiet.StateHeard.{StateHeard}
 use Rattle.motor.specs.Limits.{latestTime}
 use Rattle.motor.specs.Numbers.{firstOf}
 use Rattle.motor.specs.Readings.{putOf}
 
+-- ---- a frame's id, split
+
+abbrev pub partsOf : CanFrame → IdParts
+partsOf f = extIdParts (f .«arbitration_id»)
+
 abbrev pub frameType : CanFrame → ℕ
-frameType f = typeOf (f .«arbitration_id»)
+frameType f = partsOf f .«comm_type»
 
 abbrev pub frameExtra : CanFrame → ℕ
-frameExtra f = extraOf (f .«arbitration_id»)
+frameExtra f = partsOf f .«extra_data»
 
 -- accepted: extended, type 0, 2, 17, 21, 24 or 25, low byte of the extra field equal to the motor's id
+abbrev pub acceptsParts : ℕ → Bool → IdParts → Bool
+acceptsParts id extended p = extended && (among (p .«comm_type») (0 ∷ 2 ∷ 17 ∷ 21 ∷ 24 ∷ 25 ∷ []) && eqb (p .«extra_data» % 256) id)
+
 unfoldable pub acceptsFrame : ℕ → CanFrame → Bool
-acceptsFrame id f = f .«is_extended» && (among (frameType f) (0 ∷ 2 ∷ 17 ∷ 21 ∷ 24 ∷ 25 ∷ []) && eqb (frameExtra f % 256) id)
+acceptsFrame id f = acceptsParts id (f .«is_extended») (partsOf f)
 
 -- 7: time below the motor's clock, or above 10^15
 unfoldable pub isLate : ℕ → ℕ → Bool
@@ -75,8 +85,8 @@ unfoldable pub countedAt : State → ℕ → State
 countedAt s now = stateWith s now ((s .responses + 1) % 2 ^ 64) (s .feedback) (s .«fault_report») (s .«ping_reply»)
 
 -- 0: hold the ping reply
-unfoldable pub pingAfter : HeldPing → CanFrame → HeldPing
-pingAfter old f = cond (eqb (frameType f) 0) (record { held = true; reply = pingReply (f .«arbitration_id») (f .data) }) old
+unfoldable pub pingAfter : HeldPing → IdParts → List ℕ → HeldPing
+pingAfter old p payload = cond (eqb (p .«comm_type») 0) (record { held = true; reply = pingReply p payload }) old
 
 -- a status frame's state, with the whole id
 abbrev pub stateIn : ℕ → StatusFrame → MotorFeedbackState
@@ -97,8 +107,8 @@ stateIn id status =
       undervoltage = status .flags .undervoltage;
     }
 
-unfoldable pub feedbackIn : Model → CanFrame → MotorFeedbackState
-feedbackIn model f = stateIn (f .«arbitration_id») (decodeStatusFrame (frameExtra f) (f .data) (limitsOf model))
+unfoldable pub feedbackIn : Model → IdParts → CanFrame → MotorFeedbackState
+feedbackIn model p f = stateIn (f .«arbitration_id») (decodeStatusFrame (p .«extra_data») (f .data) (limitsOf model))
 
 -- sequence +1 (stays at its maximum)
 unfoldable pub nextSequence : ℕ → ℕ
@@ -108,25 +118,28 @@ abbrev pub update : FeedbackCache → MotorFeedbackState → FeedbackCache
 update old state = record { latest = latest.State state; sequence = nextSequence (old .sequence) }
 
 -- 2 and 24: new feedback
-unfoldable pub feedbackAfter : FeedbackCache → Model → CanFrame → FeedbackCache
-feedbackAfter old model f = cond (eqb (frameType f) 2 || eqb (frameType f) 24) (update old (feedbackIn model f)) old
+unfoldable pub feedbackAfter : FeedbackCache → Model → IdParts → CanFrame → FeedbackCache
+feedbackAfter old model p f = cond (eqb (p .«comm_type») 2 || eqb (p .«comm_type») 24) (update old (feedbackIn model p f)) old
 
 -- 21: hold the fault report
-unfoldable pub faultAfter : HeldFault → CanFrame → HeldFault
-faultAfter old f = cond (eqb (frameType f) 21) (fault.Report (decodeFaultReport (f .data))) old
+unfoldable pub faultAfter : HeldFault → IdParts → List ℕ → HeldFault
+faultAfter old p payload = cond (eqb (p .«comm_type») 21) (fault.Report (decodeFaultReport payload)) old
 
 -- what types 0, 2, 24 and 21 tell; 25 and 17 nothing here
-unfoldable pub toldBy : State → CanFrame → State
-toldBy s f =
-    stateWith s (s .clock) (s .responses) (feedbackAfter (s .feedback) (s .model) f) (faultAfter (s .«fault_report») f) (pingAfter (s .«ping_reply») f)
+unfoldable pub toldBy : State → IdParts → CanFrame → State
+toldBy s p f =
+    stateWith s (s .clock) (s .responses) (feedbackAfter (s .feedback) (s .model) p f) (faultAfter (s .«fault_report») p (f .data)) (pingAfter (s .«ping_reply») p (f .data))
 
 -- ---- 17: status is the extra field's high byte; zero holds the value
 
 unfoldable pub isRead : CanFrame → Bool
 isRead f = eqb (frameType f) 17
 
+abbrev pub statusIn : IdParts → ℕ
+statusIn p = p .«extra_data» / 256
+
 unfoldable pub readStatus : CanFrame → ℕ
-readStatus f = frameExtra f / 256
+readStatus f = statusIn (partsOf f)
 
 -- bytes 0 and 1, the lower first
 unfoldable pub readId : CanFrame → ℕ
@@ -135,22 +148,26 @@ readId f = getD (f .data) 0 0 + getD (f .data) 1 0 * 256
 unfoldable pub readStored : CanFrame → Stored
 readStored f = record { value = decodeReadParameterValue (readId f) (f .data) }
 
+-- the motor's id that a frame carries, whether a motor of that id accepts it, and whether it is a read reply
+unfoldable pub arrivalOf : CanFrame → Arrival
+arrivalOf f = record { source = frameExtra f % 256; accepted = acceptsFrame (frameExtra f % 256) f; read = isRead f }
+
 -- ---- Frame: 13, 7, 14, 15. `full` where there is no room for the value
+
+abbrev pub frameTests : Bool → Bool → List (Bool × Refusal)
+frameTests accepted late = (not accepted, FrameNotAccepted) ∷ (late, TimeOutOfRange) ∷ []
 
 abbrev pub frameNumbers : State → CanFrame → ℕ → Bool → List (Bool × Refusal)
 frameNumbers s f now full =
-    (not (acceptsFrame (s .«motor_id») f), FrameNotAccepted)
-    ∷ (isLate (s .clock) now, TimeOutOfRange)
-    ∷ (isRead f && not (eqb (readStatus f) 0), ReadFailed (readId f) (readStatus f))
-    ∷ (isRead f && full, ReadingsFull)
-    ∷ []
+    frameTests (acceptsFrame (s .«motor_id») f) (isLate (s .clock) now)
+    ++ ((isRead f && not (eqb (readStatus f) 0), ReadFailed (readId f) (readStatus f)) ∷ (isRead f && full, ReadingsFull) ∷ [])
 
 unfoldable pub frameSaid : State → CanFrame → ℕ → Bool → Checked
 frameSaid s f now full = firstOf (frameNumbers s f now full)
 
 -- refused other than by 14 or 15, nothing changes; 14 and 15 raise the count and leave what is held
 unfoldable pub stateAfter : Checked → State → CanFrame → ℕ → State
-stateAfter Passed s f now = toldBy (countedAt s now) f
+stateAfter Passed s f now = toldBy (countedAt s now) (partsOf f) f
 stateAfter (Refused r) s f now = cond (among (numberOf r) (14 ∷ 15 ∷ [])) (countedAt s now) s
 
 -- the new readings where a value was put
@@ -172,14 +189,25 @@ processFeedbackFrame m f now =
     let said = frameSaid (m .state) f now (isFull (put .said)) in
     heardWith (stateAfter said (m .state) f now) (readingsAfter said f (put .readings) (m .readings)) said
 
+-- ---- the same of a frame whose id is split: 13 and 7
+
+unfoldable pub frameAdmitted : ℕ → ℕ → Bool → IdParts → ℕ → Checked
+frameAdmitted id clock extended p now = firstOf (frameTests (acceptsParts id extended p) (isLate clock now))
+
+abbrev pub admittedTo : State → IdParts → CanFrame → ℕ → Checked
+admittedTo s p f now = frameAdmitted (s .«motor_id») (s .clock) (f .«is_extended») p now
+
 -- ---- a frame that is no read reply: the state alone
 
 abbrev pub stateHeard : State → Checked → StateHeard
 stateHeard state said = record { state = state; said = said }
 
--- 13, 7
-unfoldable pub hearState : State → CanFrame → ℕ → StateHeard
-hearState s f now =
-    cond (acceptsFrame (s .«motor_id») f)
-    (cond (isLate (s .clock) now) (stateHeard s (Refused TimeOutOfRange)) (stateHeard (toldBy (countedAt s now) f) Passed))
-    (stateHeard s (Refused FrameNotAccepted))
+abbrev pub hearStateBy : Checked → State → IdParts → CanFrame → ℕ → StateHeard
+hearStateBy Passed s p f now = stateHeard (toldBy (countedAt s now) p f) Passed
+hearStateBy (Refused r) s p f now = stateHeard s (Refused r)
+
+abbrev pub hearStateSplit : State → IdParts → CanFrame → ℕ → StateHeard
+hearStateSplit s p f now = hearStateBy (admittedTo s p f now) s p f now
+
+abbrev pub hearState : State → CanFrame → ℕ → StateHeard
+hearState s f now = hearStateSplit s (partsOf f) f now

@@ -7,19 +7,21 @@ use crate::readings::PutAnswer;
 use crate::readings::Reading;
 use crate::readings::Readings;
 use crate::readings::seek;
-use crate::receive::accepts_frame;
+use crate::readings::with_next;
 use crate::receive::counted_at;
-use crate::receive::is_late;
+use crate::receive::frame_admitted;
 use crate::receive::read_id;
-use crate::receive::read_status;
 use crate::receive::read_stored;
+use crate::receive::status_in;
 use codec::bus::CanFrame;
 use codec::error::Checked;
 use codec::error::Refusal;
+use codec::protocol::IdParts;
+use codec::protocol::ext_id_parts;
 ghost use mathlib.Core.Path.{_≡_};
 ghost use Prim.Native.Nat.{_≤_, _<_};
 ghost use Rattle.motor.specs.Limits.{mostReadings, mostRecords};
-ghost use Rattle.motor.specs.Edits.{noEdit, addEdit, putEdit, readKept, hearRead};
+ghost use Rattle.motor.specs.Edits.{editedBy, noEdit, addEdit, putEdit, readKept, readTaken, hearReadSplit, hearRead};
 
 // What is to be stored of the readings: record `first` is `one`; then record `second` goes on to `link`; `free` is the first free record.
 pub struct Edit {
@@ -41,6 +43,20 @@ pub struct ReadHeard {
     pub state: State,
     pub edit: Edit,
     pub said: Checked,
+}
+
+// The readings once an edit is stored.
+pub(crate) fn edited_by(rs: Readings, edit: Edit) -> Readings
+    requires { ⌜ (edit .first < mostRecords) × (edit .second < mostRecords) ⌝ }
+    ensures { λ r. ⌜ r ≡ editedBy rs edit ⌝ }
+{
+    let mut out = rs;
+    let first = edit.first;
+    let one = edit.one;
+    out.records[first] = one;
+    out.free = edit.free;
+    let second = edit.second;
+    with_next(out, second, edit.link)
 }
 
 // Nothing changes: record 0 stored as it is.
@@ -138,21 +154,11 @@ fn read_kept(state: State, rs: Readings, said: Checked) -> ReadHeard
     ReadHeard { state, edit, said }
 }
 
-// A read reply: 13 and 7 change nothing; else it is counted, 14 and 15 store nothing, and a value is put.
-pub fn hear_read(m: Motor, frame: CanFrame, now: u64) -> ReadHeard
-    ensures { λ r. ⌜ (r ≡ hearRead m frame now) × (r .edit .first < mostRecords) × (r .edit .second < mostRecords) ⌝ }
+// A read reply that is counted: 14 and 15 store nothing, and a value is put.
+fn read_taken(state: State, rs: Readings, status: u8, frame: CanFrame) -> ReadHeard
+    ensures { λ r. ⌜ (r ≡ readTaken state rs status frame) × (r .edit .first < mostRecords) × (r .edit .second < mostRecords) ⌝ }
 {
-    let s = m.state;
-    let rs = m.readings;
-    if !accepts_frame(s.motor_id, frame) {
-        return read_kept(s, rs, Checked::Refused(Refusal::FrameNotAccepted));
-    }
-    if is_late(s.clock, now) {
-        return read_kept(s, rs, Checked::Refused(Refusal::TimeOutOfRange));
-    }
-    let state = counted_at(s, now);
     let id = read_id(frame);
-    let status = read_status(frame);
     if status != 0 {
         return read_kept(
             state,
@@ -171,4 +177,24 @@ pub fn hear_read(m: Motor, frame: CanFrame, now: u64) -> ReadHeard
         },
         PutAnswer::Full => return read_kept(state, rs, Checked::Refused(Refusal::ReadingsFull)),
     }
+}
+
+// Its id split: 13 and 7 change nothing; else it is counted, and its status looked at.
+pub(crate) fn hear_read_split(m: Motor, parts: IdParts, frame: CanFrame, now: u64) -> ReadHeard
+    ensures { λ r. ⌜ (r ≡ hearReadSplit m parts frame now) × (r .edit .first < mostRecords) × (r .edit .second < mostRecords) ⌝ }
+{
+    let s = m.state;
+    let rs = m.readings;
+    match frame_admitted(s.motor_id, s.clock, frame.is_extended, parts, now) {
+        Checked::Passed => return read_taken(counted_at(s, now), rs, status_in(parts), frame),
+        Checked::Refused(refusal) => return read_kept(s, rs, Checked::Refused(refusal)),
+    }
+}
+
+// A read reply, at a time.
+pub fn hear_read(m: Motor, frame: CanFrame, now: u64) -> ReadHeard
+    ensures { λ r. ⌜ (r ≡ hearRead m frame now) × (r .edit .first < mostRecords) × (r .edit .second < mostRecords) ⌝ }
+{
+    let parts = ext_id_parts(frame.arbitration_id);
+    hear_read_split(m, parts, frame, now)
 }

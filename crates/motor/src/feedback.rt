@@ -2,7 +2,7 @@
 use codec::bus::CanFrame;
 use codec::model::Model;
 use codec::model::limits_of;
-use codec::protocol::ext_id_parts;
+use codec::protocol::IdParts;
 use codec::status::decode_status_frame;
 ghost use mathlib.Core.Path.{_≡_};
 ghost use Rattle.motor.specs.Receive.{feedbackIn, nextSequence, update};
@@ -36,10 +36,9 @@ pub struct FeedbackCache {
 }
 
 // What a status frame tells, by the model's limits.
-pub(crate) fn feedback_in(model: Model, frame: CanFrame) -> MotorFeedbackState
-    ensures { λ r. ⌜ r ≡ feedbackIn model frame ⌝ }
+pub(crate) fn feedback_in(model: Model, parts: IdParts, frame: CanFrame) -> MotorFeedbackState
+    ensures { λ r. ⌜ r ≡ feedbackIn model parts frame ⌝ }
 {
-    let parts = ext_id_parts(frame.arbitration_id);
     let data = frame.data;
     let status = decode_status_frame(parts.extra_data, data, limits_of(model));
     let flags = status.flags;

@@ -1,14 +1,14 @@
 // Receiving a frame that is no read reply: it concerns the state alone, and the readings stay where they are.
 use crate::motor::State;
-use crate::receive::accepts_frame;
 use crate::receive::counted_at;
-use crate::receive::is_late;
+use crate::receive::frame_admitted;
 use crate::receive::told_by;
 use codec::bus::CanFrame;
 use codec::error::Checked;
-use codec::error::Refusal;
+use codec::protocol::IdParts;
+use codec::protocol::ext_id_parts;
 ghost use mathlib.Core.Path.{_≡_};
-ghost use Rattle.motor.specs.Receive.{stateHeard, hearState};
+ghost use Rattle.motor.specs.Receive.{stateHeard, hearStateSplit, hearState};
 
 // What such a frame answers, and the state after it.
 pub struct StateHeard {
@@ -22,15 +22,23 @@ fn state_heard(state: State, said: Checked) -> StateHeard
     StateHeard { state, said }
 }
 
-// 13 and 7 leave the state as it was; else the frame is counted, and held by its type.
+// Its id split: 13 and 7 leave the state as it was; else the frame is counted, and held by its type.
+pub(crate) fn hear_state_split(s: State, parts: IdParts, frame: CanFrame, now: u64) -> StateHeard
+    ensures { λ r. ⌜ r ≡ hearStateSplit s parts frame now ⌝ }
+{
+    match frame_admitted(s.motor_id, s.clock, frame.is_extended, parts, now) {
+        Checked::Passed => return state_heard(
+            told_by(counted_at(s, now), parts, frame),
+            Checked::Passed,
+        ),
+        Checked::Refused(refusal) => return state_heard(s, Checked::Refused(refusal)),
+    }
+}
+
+// A frame that is no read reply, at a time.
 pub fn hear_state(s: State, frame: CanFrame, now: u64) -> StateHeard
     ensures { λ r. ⌜ r ≡ hearState s frame now ⌝ }
 {
-    if !accepts_frame(s.motor_id, frame) {
-        return state_heard(s, Checked::Refused(Refusal::FrameNotAccepted));
-    }
-    if is_late(s.clock, now) {
-        return state_heard(s, Checked::Refused(Refusal::TimeOutOfRange));
-    }
-    state_heard(told_by(counted_at(s, now), frame), Checked::Passed)
+    let parts = ext_id_parts(frame.arbitration_id);
+    hear_state_split(s, parts, frame, now)
 }

@@ -1,4 +1,6 @@
 // Readings: what a motor keeps for each parameter, in 96 records that form two chains.
+use crate::edits::edited_by;
+use crate::edits::put_edit;
 use crate::engine::reading::Found;
 use crate::engine::reading::Stored;
 use crate::limits::ENTRIES;
@@ -9,7 +11,7 @@ ghost use mathlib.Core.Path.{_≡_};
 ghost use mathlib.Core.List.{List};
 ghost use Prim.Native.Nat.{_≤_, _<_};
 ghost use Rattle.motor.specs.Limits.{mostReadings, mostRecords};
-ghost use Rattle.motor.specs.Readings.{Lists, Rep, Holds, Puts, atFirst, lookup, dropIn, listing, blankStored, freeRecord, withNext, seekFrom, holderAt, addAt, emptyReadings, findOf, putOf, dropId, listedOf};
+ghost use Rattle.motor.specs.Readings.{Lists, Rep, Holds, Puts, atFirst, lookup, dropIn, listing, blankStored, freeRecord, withNext, seekFrom, holderAt, emptyReadings, findOf, putOf, dropId, listedOf};
 
 // A record. The next of the last one is 0.
 pub struct Reading {
@@ -142,7 +144,7 @@ pub fn find(rs: Readings, id: u16) -> Found
     Found::Held(held)
 }
 
-fn with_next(rs: Readings, at: usize, n: u16) -> Readings
+pub(crate) fn with_next(rs: Readings, at: usize, n: u16) -> Readings
     requires { ⌜ at < mostRecords ⌝ }
     ensures { λ r. ⌜ r ≡ withNext rs at n ⌝ }
 {
@@ -157,56 +159,16 @@ fn with_next(rs: Readings, at: usize, n: u16) -> Readings
     out
 }
 
-// id is not held, and its place is after record p: it takes the first free record.
-fn add(rs: Readings, id: u16, held: Stored, p: u16) -> PutResult
-    requires { ⌜ p ≤ mostReadings ⌝ }
-    ensures { λ r. ⌜ r ≡ addAt rs id held p ⌝ }
-{
-    let f = rs.free;
-    if f == 0 {
-        return PutResult {
-            said: PutAnswer::Full,
-            readings: rs,
-        };
-    }
-    if READINGS < f {
-        return PutResult {
-            said: PutAnswer::Full,
-            readings: rs,
-        };
-    }
-    let j = f as usize;
-    let at = p as usize;
-    let next = rs.records[at].next;
-    let free = rs.records[j].next;
-    let mut out = rs;
-    out.records[j] = Reading { id, held, next };
-    out.free = free;
-    let readings = with_next(out, at, f);
-    PutResult {
-        said: PutAnswer::Kept,
-        readings,
-    }
-}
-
 // Keeps held for id: in the record that holds id, else in the first free one.
 pub fn put(rs: Readings, id: u16, held: Stored) -> PutResult
     ensures is { λ r. ⌜ r ≡ putOf rs id held ⌝ }
     ensures means { λ r. ⌜ ((ls : Lists) → Rep rs ls → Puts rs ls id held r) ⌝ }
 {
-    let p = seek(rs, id);
-    let n = holder(rs, id, p);
-    if n == 0 {
-        return add(rs, id, held, p);
-    }
-    let k = n as usize;
-    let next = rs.records[k].next;
-    let mut out = rs;
-    out.records[k] = Reading { id, held, next };
-    PutResult {
-        said: PutAnswer::Kept,
-        readings: out,
-    }
+    let answer = put_edit(rs, id, held);
+    let said = answer.said;
+    let edit = answer.edit;
+    let readings = edited_by(rs, edit);
+    PutResult { said, readings }
 }
 
 // Holds id no longer: its record is blank, and the first free one.

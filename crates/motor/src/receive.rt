@@ -1,4 +1,7 @@
-// Receiving: what a frame does to what a motor holds.
+// Receiving: what a frame does to what a motor holds. The rule stands once: a read reply is `edits`' hear_read, any other frame
+// `quiet`'s hear_state; process_feedback_frame stores what the one or the other gives.
+use crate::edits::edited_by;
+use crate::edits::hear_read_split;
 use crate::engine::operation::HeldPing;
 use crate::engine::reading::Stored;
 use crate::feedback::FeedbackCache;
@@ -8,50 +11,41 @@ use crate::limits::LATEST;
 use crate::motor::HeldFault;
 use crate::motor::Motor;
 use crate::motor::State;
+use crate::quiet::hear_state_split;
 use crate::readings::Entry;
-use crate::readings::PutAnswer;
 use crate::readings::Readings;
-use crate::readings::put;
 use codec::bus::CanFrame;
 use codec::error::Checked;
 use codec::error::Refusal;
 use codec::faults::decode_fault_report;
 use codec::model::Model;
 use codec::protocol::CommunicationType;
+use codec::protocol::IdParts;
 use codec::protocol::decode_read_parameter_value;
 use codec::protocol::ext_id_parts;
-use codec::replies::decode_ping_reply;
+use codec::replies::ping_reply;
 ghost use mathlib.Core.Path.{_≡_};
 ghost use Prim.Native.Nat.{_+_, _*_};
-ghost use mathlib.Core.Bool.{true, false, _||_};
+ghost use mathlib.Core.Bool.{_||_};
 ghost use mathlib.Core.List.{List, [], _∷_};
 ghost use lib.Dec.{eqb};
 ghost use Rattle.codec.specs.Kinds.{among};
-ghost use Rattle.motor.specs.Receive.{frameType, frameExtra, acceptsFrame, isLate, countedAt, pingAfter, feedbackAfter, faultAfter, toldBy, isRead, readStatus, readId, readStored, heardWith, processFeedbackFrame};
+ghost use Rattle.motor.specs.Receive.{acceptsParts, acceptsFrame, arrivalOf, isLate, frameAdmitted, countedAt, pingAfter, feedbackAfter, faultAfter, toldBy, statusIn, readId, readStored, heardWith, processFeedbackFrame};
 ghost use Rattle.motor.specs.Readings.{Holds};
 ghost use Rattle.motor.specs.Lone.{hears};
 ghost use Rattle.motor.specs.Motors.{HeardAs, loneOf};
+
+// Where a frame comes from: the motor's id that it carries, whether a motor of that id accepts it, and whether it is a read reply.
+pub struct Arrival {
+    pub source: u16,
+    pub accepted: bool,
+    pub read: bool,
+}
 
 // What a frame answers, and the motor after it.
 pub struct Heard {
     pub motor: Motor,
     pub said: Checked,
-}
-
-// ---- the id's parts
-
-fn frame_type(frame: CanFrame) -> u32
-    ensures { λ r. ⌜ r ≡ frameType frame ⌝ }
-{
-    let parts = ext_id_parts(frame.arbitration_id);
-    parts.comm_type
-}
-
-fn frame_extra(frame: CanFrame) -> u16
-    ensures { λ r. ⌜ r ≡ frameExtra frame ⌝ }
-{
-    let parts = ext_id_parts(frame.arbitration_id);
-    parts.extra_data
 }
 
 // ---- the tests
@@ -81,17 +75,45 @@ fn accepts_type(comm_type: u32) -> bool
     false
 }
 
+// The same of a frame whose id is split.
+fn accepts_parts(motor_id: u16, extended: bool, parts: IdParts) -> bool
+    ensures { λ r. ⌜ r ≡ acceptsParts «motor_id» extended parts ⌝ }
+{
+    if !extended {
+        return false;
+    }
+    if !accepts_type(parts.comm_type) {
+        return false;
+    }
+    parts.extra_data % 256 == motor_id
+}
+
 // Whether a frame is for the motor of this id: extended, of an accepted type, the id in the extra field's low byte.
 pub fn accepts_frame(motor_id: u16, frame: CanFrame) -> bool
     ensures { λ r. ⌜ r ≡ acceptsFrame «motor_id» frame ⌝ }
 {
-    if !frame.is_extended {
-        return false;
+    let parts = ext_id_parts(frame.arbitration_id);
+    accepts_parts(motor_id, frame.is_extended, parts)
+}
+
+fn is_read(parts: IdParts) -> bool
+    ensures { λ r. ⌜ r ≡ eqb (parts .«comm_type») 17 ⌝ }
+{
+    parts.comm_type == CommunicationType::READ_PARAMETER
+}
+
+pub fn arrival_of(frame: CanFrame) -> Arrival
+    ensures { λ r. ⌜ r ≡ arrivalOf frame ⌝ }
+{
+    let parts = ext_id_parts(frame.arbitration_id);
+    let source = parts.extra_data % 256;
+    let accepted = accepts_parts(source, frame.is_extended, parts);
+    let read = is_read(parts);
+    Arrival {
+        source,
+        accepted,
+        read,
     }
-    if !accepts_type(frame_type(frame)) {
-        return false;
-    }
-    frame_extra(frame) % 256 == motor_id
 }
 
 // 7: a time below the clock, or above 10^15.
@@ -104,18 +126,35 @@ pub(crate) fn is_late(clock: u64, now: u64) -> bool
     LATEST < now
 }
 
+// 13 and 7, for a motor of this id and clock.
+pub(crate) fn frame_admitted(
+    motor_id: u16,
+    clock: u64,
+    extended: bool,
+    parts: IdParts,
+    now: u64,
+) -> Checked
+    ensures { λ r. ⌜ r ≡ frameAdmitted «motor_id» clock extended parts now ⌝ }
+{
+    if !accepts_parts(motor_id, extended, parts) {
+        return Checked::Refused(Refusal::FrameNotAccepted);
+    }
+    if is_late(clock, now) {
+        return Checked::Refused(Refusal::TimeOutOfRange);
+    }
+    Checked::Passed
+}
+
 // ---- what frames tell
 
 // The ping reply held after a frame: type 0 brings a new one.
-fn ping_after(old: HeldPing, frame: CanFrame) -> HeldPing
-    ensures { λ r. ⌜ r ≡ pingAfter old frame ⌝ }
+fn ping_after(old: HeldPing, parts: IdParts, payload: [u8; 8]) -> HeldPing
+    ensures { λ r. ⌜ r ≡ pingAfter old parts payload ⌝ }
 {
-    if frame_type(frame) != CommunicationType::GET_DEVICE_ID {
+    if parts.comm_type != CommunicationType::GET_DEVICE_ID {
         return old;
     }
-    let data = frame.data;
-    let answer = decode_ping_reply(frame.arbitration_id, data);
-    let reply = answer.reply;
+    let reply = ping_reply(parts, payload);
     HeldPing { held: true, reply }
 }
 
@@ -130,35 +169,40 @@ fn tells_status(comm_type: u32) -> bool
 }
 
 // The feedback after a frame: types 2 and 24 bring new feedback.
-fn feedback_after(old: FeedbackCache, model: Model, frame: CanFrame) -> FeedbackCache
-    ensures { λ r. ⌜ r ≡ feedbackAfter old model frame ⌝ }
+fn feedback_after(
+    old: FeedbackCache,
+    model: Model,
+    parts: IdParts,
+    frame: CanFrame,
+) -> FeedbackCache
+    ensures { λ r. ⌜ r ≡ feedbackAfter old model parts frame ⌝ }
 {
-    if !tells_status(frame_type(frame)) {
+    if !tells_status(parts.comm_type) {
         return old;
     }
-    update(old, feedback_in(model, frame))
+    update(old, feedback_in(model, parts, frame))
 }
 
 // The fault report held after a frame: type 21 brings a new one.
-fn fault_after(old: HeldFault, frame: CanFrame) -> HeldFault
-    ensures { λ r. ⌜ r ≡ faultAfter old frame ⌝ }
+fn fault_after(old: HeldFault, parts: IdParts, payload: [u8; 8]) -> HeldFault
+    ensures { λ r. ⌜ r ≡ faultAfter old parts payload ⌝ }
 {
-    if frame_type(frame) != CommunicationType::FAULT_REPORT {
+    if parts.comm_type != CommunicationType::FAULT_REPORT {
         return old;
     }
-    let data = frame.data;
-    HeldFault::Report(decode_fault_report(data))
+    HeldFault::Report(decode_fault_report(payload))
 }
 
 // The state after what a frame tells.
-pub(crate) fn told_by(s: State, frame: CanFrame) -> State
-    ensures { λ r. ⌜ r ≡ toldBy s frame ⌝ }
+pub(crate) fn told_by(s: State, parts: IdParts, frame: CanFrame) -> State
+    ensures { λ r. ⌜ r ≡ toldBy s parts frame ⌝ }
 {
     let model = s.model;
-    let feedback = feedback_after(s.feedback, model, frame);
+    let data = frame.data;
+    let feedback = feedback_after(s.feedback, model, parts, frame);
     let fault_report = s.fault_report;
-    let fault_report = fault_after(fault_report, frame);
-    let ping_reply = ping_after(s.ping_reply, frame);
+    let fault_report = fault_after(fault_report, parts, data);
+    let ping_reply = ping_after(s.ping_reply, parts, data);
     let gains = s.gains;
     let operation = s.operation;
     let command = s.command;
@@ -190,17 +234,11 @@ pub(crate) fn counted_at(s: State, now: u64) -> State
 
 // ---- read replies
 
-pub fn is_read(frame: CanFrame) -> bool
-    ensures { λ r. ⌜ r ≡ isRead frame ⌝ }
-{
-    frame_type(frame) == CommunicationType::READ_PARAMETER
-}
-
 // The status of a read reply: the extra field's high byte.
-pub(crate) fn read_status(frame: CanFrame) -> u8
-    ensures { λ r. ⌜ r ≡ readStatus frame ⌝ }
+pub(crate) fn status_in(parts: IdParts) -> u8
+    ensures { λ r. ⌜ r ≡ statusIn parts ⌝ }
 {
-    (frame_extra(frame) >> 8) as u8
+    (parts.extra_data >> 8) as u8
 }
 
 // Two bytes as a number, the lower first.
@@ -236,53 +274,22 @@ fn heard_with(state: State, readings: Readings, said: Checked) -> Heard
     Heard { motor, said }
 }
 
-// 14: a read that failed leaves the readings as they were.
-fn read_failed(state: State, readings: Readings, id: u16, status: u8) -> Heard
-    ensures { λ r. ⌜ (r .motor .state ≡ state) × (r .motor .readings ≡ readings) × (r .said ≡ Checked.Refused (Refusal.ReadFailed id status)) ⌝ }
-{
-    let said = Checked::Refused(Refusal::ReadFailed { id, status });
-    let motor = Motor { state, readings };
-    Heard { motor, said }
-}
-
-// An accepted read reply: 14 if the read failed, else its value is put, 15 if there is no room.
-fn read_heard(m: Motor, frame: CanFrame, now: u64) -> Heard
-    requires { ⌜ (acceptsFrame (m .state .«motor_id») frame ≡ true) × (isLate (m .state .clock) now ≡ false) × (isRead frame ≡ true) ⌝ }
-    ensures { λ r. ⌜ r ≡ processFeedbackFrame m frame now ⌝ }
-{
-    let s = m.state;
-    let old = m.readings;
-    let state = counted_at(s, now);
-    let id = read_id(frame);
-    let status = read_status(frame);
-    if status != 0 {
-        return read_failed(state, old, id, status);
-    }
-    let result = put(old, id, read_stored(frame));
-    let readings = result.readings;
-    let answer = result.said;
-    match answer {
-        PutAnswer::Kept => return heard_with(state, readings, Checked::Passed),
-        PutAnswer::Full => return heard_with(state, old, Checked::Refused(Refusal::ReadingsFull)),
-    }
-}
-
 // A frame at a time: 13 and 7 leave the motor as it was; else it is counted, and held by its type.
 pub fn process_feedback_frame(m: Motor, frame: CanFrame, now: u64) -> Heard
     ensures is { λ r. ⌜ r ≡ processFeedbackFrame m frame now ⌝ }
     ensures means { λ r. ⌜ ((l : List Entry) → Holds (m .readings) l → HeardAs r (hears (loneOf m l) frame now)) ⌝ }
 {
-    let s = m.state;
+    let parts = ext_id_parts(frame.arbitration_id);
     let readings = m.readings;
-    if !accepts_frame(s.motor_id, frame) {
-        return heard_with(s, readings, Checked::Refused(Refusal::FrameNotAccepted));
+    if is_read(parts) {
+        let h = hear_read_split(m, parts, frame, now);
+        let state = h.state;
+        let edit = h.edit;
+        let said = h.said;
+        return heard_with(state, edited_by(readings, edit), said);
     }
-    if is_late(s.clock, now) {
-        return heard_with(s, readings, Checked::Refused(Refusal::TimeOutOfRange));
-    }
-    if is_read(frame) {
-        return read_heard(m, frame, now);
-    }
-    let state = told_by(counted_at(s, now), frame);
-    heard_with(state, readings, Checked::Passed)
+    let h = hear_state_split(m.state, parts, frame, now);
+    let state = h.state;
+    let said = h.said;
+    heard_with(state, readings, said)
 }

@@ -16,11 +16,12 @@ use Rattle.motor.specs.declared.engine.command.Command.{Command}
 use Rattle.motor.specs.declared.motor.Answered.{Answered}
 use Rattle.motor.specs.declared.motor.Motor.{Motor}
 use Rattle.motor.specs.declared.motor.Seen.{Seen}
+use Rattle.motor.specs.declared.receive.Arrival.{Arrival}
 use Rattle.motor.specs.declared.receive.Heard.{Heard}
 use Rattle.motor.specs.declared.registration.Admission.{Admission}
 use Rattle.motor.specs.Calls.{registrationOf}
 use Rattle.motor.specs.Motors.{newMotor, startOf, stepOf, lookOf, removalOf}
-use Rattle.motor.specs.Receive.{acceptsFrame, processFeedbackFrame}
+use Rattle.motor.specs.Receive.{arrivalOf, processFeedbackFrame}
 use Rattle.station.specs.declared.station.Station.{Station}
 use Rattle.station.specs.declared.station.After.{After}
 use Rattle.station.specs.declared.station.Looked.{Looked}
@@ -130,23 +131,24 @@ module _ (st : Station) (id i : ℕ) (e : i ≡ takenPlace (st .motors) id) wher
 
 -- ---- a frame
 
-module _ (st : Station) (f : CanFrame) (now n : ℕ) (named : n ≡ sourceOf f) (b : Bool) (tested : b ≡ acceptsFrame n f) where
+module _ (st : Station) (f : CanFrame) (now : ℕ) (a : Arrival) (split : a ≡ arrivalOf f) where
   frame-by : Bool → After
   frame-by k =
       cond k (atPlace st (sourceOf f) (λ j. heardAt st j (processFeedbackFrame (motorAt st j) f now)) (tell st (checked.Refused refusal.FrameNotAccepted)))
       (tell st (checked.Refused refusal.FrameNotAccepted))
 
-  decided : frame-by b ≡ frameIn st f now
-  unfolding frameIn frame-by
-  decided = ap frame-by (tested ∙ ap (λ (k : ℕ). acceptsFrame k f) named)
+  decided : frame-by (a .accepted) ≡ frameIn st f now
+  unfolding frameIn frame-by arrivalOf sourceOf
+  decided = ap (λ (x : Arrival). frame-by (x .accepted)) split
 
-  pub frame-unheard : b ≡ false → (r : After) → r ≡ tell st (checked.Refused refusal.FrameNotAccepted) → r ≡ frameIn st f now
+  pub frame-unheard : a .accepted ≡ false → (r : After) → r ≡ tell st (checked.Refused refusal.FrameNotAccepted) → r ≡ frameIn st f now
   unfolding frame-by
   frame-unheard p r q = q ∙ sym (ap frame-by p) ∙ decided
 
-  module _ (p : b ≡ true) (i : ℕ) (e : i ≡ takenPlace (st .motors) n) where
+  module _ (p : a .accepted ≡ true) (i : ℕ) (e : i ≡ takenPlace (st .motors) (a .source)) where
     here : i ≡ takenPlace (st .motors) (sourceOf f)
-    here = e ∙ ap (λ (k : ℕ). takenPlace (st .motors) k) named
+    unfolding arrivalOf sourceOf
+    here = e ∙ ap (λ (x : Arrival). takenPlace (st .motors) (x .source)) split
 
     pub frame-found : i < 8 → (y : Motor) → y ≡ getD (st .motors) i freeMotor → (h : Heard) (r : After) → h ≡ processFeedbackFrame y f now → r ≡ heardAt st i h
         → r ≡ frameIn st f now

@@ -39,6 +39,7 @@ status-values =
       status = λ k x r p. p;
       fault = λ k x r p. p;
       ping = λ k x r p. p;
+      ping-parts = λ k x r p. p;
       is-version = λ k x r p. p;
       version = λ k x r p. p;
       ask-version = λ k x r p. p;
@@ -60,7 +61,7 @@ reading-rules =
     }
 
 pub receive-rules : ReceiveRules
-receive-rules = record { readings = reading-rules; accepted = λ k x r p. p; read = λ k x r p. p; heard = λ k x r p. p .0; quiet = λ k x r p. p; edits = λ k x r p. p .0; as-lone = λ k x r p. p .1 }
+receive-rules = record { readings = reading-rules; accepted = λ k x r p. p; arrival = λ k x r p. p; heard = λ k x r p. p .0; quiet = λ k x r p. p; edits = λ k x r p. p .0; as-lone = λ k x r p. p .1 }
 
 pub operations : Operations
 operations =

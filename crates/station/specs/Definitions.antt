@@ -12,7 +12,7 @@ use Rattle.codec.specs.Models.{modelNamed, limitsOf, modelLimits}
 use Rattle.codec.specs.Modes.{controlModeNumber, controlModeFromRaw}
 use Rattle.codec.specs.Motion.{motionRaw, gainRaw, encodeMitCommand}
 use Rattle.codec.specs.Refusals.{numberOf}
-use Rattle.codec.specs.Replies.{validateProtocolCmd, encodeSetProtocol, encodeVersionRequest, isVersionReply, decodeVersionReply, decodePingReply}
+use Rattle.codec.specs.Replies.{validateProtocolCmd, encodeSetProtocol, encodeVersionRequest, isVersionReply, decodeVersionReply, pingReply, decodePingReply}
 use Rattle.codec.specs.Status.{statusValue, temperatureOf, decodeStatusFrame}
 use Rattle.codec.specs.Values.{encodeParameterValue, encodeParameterRead, encodeParameterWrite, decodeReadParameterValue}
 use Rattle.codec.specs.Words.{valueOf, wordOf}
@@ -39,6 +39,7 @@ use Rattle.codec.proofs.replies.decode_ping_reply.Reads as decode-ping-reply
 use Rattle.codec.proofs.replies.decode_version_reply.Reads as decode-version-reply
 use Rattle.codec.proofs.replies.encode_version_request.Reads as encode-version-request
 use Rattle.codec.proofs.replies.is_version_reply.Reads as is-version-reply
+use Rattle.codec.proofs.replies.ping_reply.Reads as ping-reply
 use Rattle.codec.proofs.status.decode_status_frame.Reads as decode-status-frame
 use Rattle.codec.proofs.status.status_value.Reads as status-value
 use Rattle.codec.proofs.status.temperature.Reads as temperature
@@ -60,7 +61,7 @@ use Rattle.motor.specs.Edits.{hearRead}
 use Rattle.motor.specs.Lone.{loneStart, loneStep, hears, loneLook}
 use Rattle.motor.specs.Motors.{newMotor, startOf, stepOf, lookOf, removalOf, loneOf, AnsweredAs, HeardAs}
 use Rattle.motor.specs.Readings.{lookup, Lists, atFirst, dropIn, Rep, Holds, Puts, listing, emptyReadings, findOf, putOf, dropId, listedOf}
-use Rattle.motor.specs.Receive.{acceptsFrame, isRead, processFeedbackFrame, hearState}
+use Rattle.motor.specs.Receive.{acceptsFrame, arrivalOf, processFeedbackFrame, hearState}
 use Rattle.motor.proofs.motor.look.Reads as look-reads
 use Rattle.motor.proofs.motor.new.Reads as new-reads
 use Rattle.motor.proofs.motor.removal.Reads as removal-reads
@@ -74,7 +75,7 @@ use Rattle.motor.proofs.readings.put.Reads as put-reads
 use Rattle.motor.proofs.edits.hear_read.Reads as hear-read
 use Rattle.motor.proofs.quiet.hear_state.Reads as hear-state
 use Rattle.motor.proofs.receive.accepts_frame.Reads as accepts-frame
-use Rattle.motor.proofs.receive.is_read.Reads as is-read
+use Rattle.motor.proofs.receive.arrival_of.Reads as arrival-of
 use Rattle.motor.proofs.receive.process_feedback_frame.Reads as process-feedback-frame
 use Rattle.motor.proofs.registration.registration.Reads as registration-reads
 use Rattle.motor.proofs.registration.registration_of.Reads as registration-of
@@ -144,6 +145,7 @@ pub record StatusValues : Type 0 where
   pub status : Gives decode-status-frame.Post (of3 decodeStatusFrame)
   pub fault : Gives decode-fault-report.Post (of1 decodeFaultReport)
   pub ping : Gives decode-ping-reply.Post (of2 decodePingReply)
+  pub ping-parts : Gives ping-reply.Post (of2 pingReply)
   pub is-version : Gives is-version-reply.Post (of2 isVersionReply)
   pub version : Gives decode-version-reply.Post (of2 decodeVersionReply)
   pub ask-version : Gives encode-version-request.Post (of0 encodeVersionRequest)
@@ -165,7 +167,7 @@ pub record ReadingRules : Type 0 where
 pub record ReceiveRules : Type 0 where
   pub readings : ReadingRules
   pub accepted : Gives accepts-frame.Post (of2 acceptsFrame)
-  pub read : Gives is-read.Post (of1 isRead)
+  pub arrival : Gives arrival-of.Post (of1 arrivalOf)
   pub heard : Gives process-feedback-frame.Post (of3 processFeedbackFrame)
   pub quiet : Gives hear-state.Post (of3 hearState)
   pub edits : Gives hear-read.Post (of3 hearRead)

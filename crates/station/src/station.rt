@@ -14,7 +14,6 @@ use codec::bus::CanFrame;
 use codec::error::Checked;
 use codec::error::Refusal;
 use codec::model::Model;
-use codec::protocol::ext_id_parts;
 use motor::engine::command::Command;
 use motor::engine::command::Said;
 use motor::motor::Answered;
@@ -22,7 +21,7 @@ use motor::motor::Motor;
 use motor::motor::Seen;
 use motor::motor::removal;
 use motor::receive::Heard;
-use motor::receive::accepts_frame;
+use motor::receive::arrival_of;
 use motor::receive::process_feedback_frame;
 use motor::registration::Admission;
 use motor::registration::registration;
@@ -32,7 +31,7 @@ ghost use Prim.Native.Nat.{_<_};
 ghost use Rattle.codec.specs.Models.{modelNamed};
 ghost use Rattle.station.specs.Limits.{mostMotors};
 ghost use Rattle.station.specs.Calls as asked;
-ghost use Rattle.station.specs.Station.{Place, sourceOf, empty, stationCall};
+ghost use Rattle.station.specs.Station.{Place, empty, stationCall};
 ghost use Rattle.station.specs.Stations.{newStation, withMotor, tell, movedAt, notMoved, heardAt, removedAt, admittedIn, registerIn, startIn, stepIn, frameIn, lookIn, removeIn};
 ghost use Rattle.station.specs.Stations.{Shows, LeavesAs, replyOf};
 
@@ -162,14 +161,6 @@ pub fn step(st: Station, id: u16, now: u64) -> After
 
 // ---- frame: 13, then the motor's
 
-// The id of the motor that a frame comes from.
-pub(crate) fn source_of(frame: CanFrame) -> u16
-    ensures { λ r. ⌜ r ≡ sourceOf frame ⌝ }
-{
-    let parts = ext_id_parts(frame.arbitration_id);
-    parts.extra_data % 256
-}
-
 fn heard_at(st: Station, i: usize, h: Heard) -> After
     requires { ⌜ i < mostMotors ⌝ }
     ensures { λ r. ⌜ r ≡ heardAt st i h ⌝ }
@@ -184,12 +175,12 @@ pub fn frame(st: Station, frame: CanFrame, now: u64) -> After
     ensures is { λ r. ⌜ r ≡ frameIn st frame now ⌝ }
     ensures means { λ r. ⌜ ((s : List Place) → Shows st s → LeavesAs r (stationCall s (asked.frame frame now))) ⌝ }
 {
-    let id = source_of(frame);
-    if !accepts_frame(id, frame) {
+    let arrival = arrival_of(frame);
+    if !arrival.accepted {
         return tell(st, Checked::Refused(Refusal::FrameNotAccepted));
     }
     let motors = st.motors;
-    let i = taken_place(motors, id);
+    let i = taken_place(motors, arrival.source);
     if i < MOTORS {
         let m = motor_at(motors, i);
         return heard_at(st, i, process_feedback_frame(m, frame, now));

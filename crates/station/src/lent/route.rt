@@ -2,12 +2,10 @@
 use crate::call::Asked;
 use crate::call::Call;
 use crate::limits::MOTORS;
-use crate::station::source_of;
 use codec::bus::CanFrame;
 use codec::error::Checked;
 use codec::error::Refusal;
-use motor::receive::accepts_frame;
-use motor::receive::is_read;
+use motor::receive::arrival_of;
 use motor::registration::Admission;
 use motor::registration::registration_of;
 ghost use mathlib.Core.Path.{_≡_};
@@ -109,10 +107,11 @@ fn route_new(ids: [u16; MOTORS], id: u16, admission: Admission) -> Route
 fn route_frame(ids: [u16; MOTORS], frame: CanFrame) -> Route
     ensures { λ r. ⌜ (r ≡ spec.routeFrame ids frame) × (r .at < mostMotors) ⌝ }
 {
-    let id = source_of(frame);
-    if accepts_frame(id, frame) {
-        let edits = is_read(frame);
-        return route_to(ids, id, Refusal::FrameNotAccepted, !edits, edits);
+    let arrival = arrival_of(frame);
+    if arrival.accepted {
+        let edits = arrival.read;
+        let quiet = !edits;
+        return route_to(ids, arrival.source, Refusal::FrameNotAccepted, quiet, edits);
     }
     nowhere(Refusal::FrameNotAccepted)
 }

@@ -16,15 +16,15 @@ returns : tie.Need-returns
 returns c = let e = ap (λ (p : IdParts). p .«comm_type») (c .before .before .before .ext-id-parts .ensures) in
     rw (← e, ne-eqb _ _ (c .before .if1 .taken)) (c .not-ping-reply .ensures)
 
-cast-t6 : tie.Need-cast-t6
-cast-t6 c = search needs
+ping-reply-requires : tie.Need-ping-reply-requires
+ping-reply-requires c κs = search needs
 
 passed-ping-requires : tie.Need-passed-ping-requires
 passed-ping-requires c κs = search needs
 
 returns-2 : tie.Need-returns-2
 returns-2 c = let p = c .before .before .before .before .ext-id-parts .ensures in
-    rw (c .passed-ping .ensures, p, eq-eqb _ _ (ap (λ (q : IdParts). q .«comm_type») (sym p) ∙ c .before .before .if1 .left))
+    rw (c .passed-ping .ensures, c .before .ping-reply .ensures, p, eq-eqb _ _ (ap (λ (q : IdParts). q .«comm_type») (sym p) ∙ c .before .before .if1 .left))
 
 pub decode-ping-reply-spec : {M : Type 1} → statement M
 decode-ping-reply-spec =
@@ -33,6 +33,6 @@ decode-ping-reply-spec =
     ext-id-parts-requires
     not-ping-reply-requires
     returns
-    cast-t6
+    ping-reply-requires
     passed-ping-requires
     returns-2)

@@ -4,9 +4,6 @@ use Rattle.motor.specs.Receive.{feedbackIn}
 use Rattle.motor.proofs.feedback.feedback_in.Statement.{statement}
 use Rattle.motor.proofs.feedback.feedback_in.Tie as tie
 
-ext-id-parts-requires : tie.Need-ext-id-parts-requires
-ext-id-parts-requires c κs = search needs
-
 limits-of-requires : tie.Need-limits-of-requires
 limits-of-requires c κs = search needs
 
@@ -15,9 +12,7 @@ decode-status-frame-requires c κs = search needs
 
 returns : tie.Need-returns
 unfolding feedbackIn
-returns c = rw (c .before .decode-status-frame .ensures, c .before .before .limits-of .ensures, c .before .before .before .before .ext-id-parts .ensures)
+returns c = rw (c .before .decode-status-frame .ensures, c .before .before .limits-of .ensures)
 
 pub feedback-in-spec : {M : Type 1} → statement M
-feedback-in-spec =
-    tie.close
-    (tie.spec ext-id-parts-requires limits-of-requires decode-status-frame-requires returns)
+feedback-in-spec = tie.close (tie.spec limits-of-requires decode-status-frame-requires returns)

@@ -5,21 +5,16 @@ use Rattle.motor.specs.Receive.{faultAfter}
 use Rattle.motor.proofs.receive.fault_after.Statement.{statement}
 use Rattle.motor.proofs.receive.fault_after.Tie as tie
 
-frame-type-requires : tie.Need-frame-type-requires
-frame-type-requires c κs = search needs
-
 returns : tie.Need-returns
 unfolding faultAfter
-returns c = rw (← c .before .frame-type .ensures, ne-eqb _ _ (c .if1 .taken))
+returns c = rw (ne-eqb _ _ (c .if1 .taken))
 
 decode-fault-report-requires : tie.Need-decode-fault-report-requires
 decode-fault-report-requires c κs = search needs
 
 returns-2 : tie.Need-returns-2
 unfolding faultAfter
-returns-2 c = let b = c .before .before in
-    rw (c .decode-fault-report .ensures, ← b .before .frame-type .ensures, eq-eqb _ _ (b .if1 .left))
+returns-2 c = rw (c .decode-fault-report .ensures, eq-eqb _ _ (c .before .if1 .left))
 
 pub fault-after-spec : {M : Type 1} → statement M
-fault-after-spec =
-    tie.close (tie.spec frame-type-requires returns decode-fault-report-requires returns-2)
+fault-after-spec = tie.close (tie.spec returns decode-fault-report-requires returns-2)

@@ -5,16 +5,13 @@ use Rattle.motor.specs.Receive.{feedbackAfter}
 use Rattle.motor.proofs.receive.feedback_after.Statement.{statement}
 use Rattle.motor.proofs.receive.feedback_after.Tie as tie
 
-frame-type-requires : tie.Need-frame-type-requires
-frame-type-requires c κs = search needs
-
 tells-status-requires : tie.Need-tells-status-requires
 tells-status-requires c κs = search needs
 
 returns : tie.Need-returns
 unfolding feedbackAfter
 returns c = let t = c .before in
-    rw (← t .before .frame-type .ensures, ← t .tells-status .ensures, not-true (t .tells-status .result) (c .if1 .taken))
+    rw (← t .tells-status .ensures, not-true (t .tells-status .result) (c .if1 .taken))
 
 feedback-in-requires : tie.Need-feedback-in-requires
 feedback-in-requires c κs = search needs
@@ -25,15 +22,8 @@ update-requires c κs = search needs
 returns-2 : tie.Need-returns-2
 unfolding feedbackAfter
 returns-2 c = let t = c .before .before .before in
-    rw (c .update .ensures, c .before .feedback-in .ensures, ← t .before .frame-type .ensures, ← t .tells-status .ensures, not-false (t .tells-status .result) (c .before .before .if1 .left))
+    rw (c .update .ensures, c .before .feedback-in .ensures, ← t .tells-status .ensures, not-false (t .tells-status .result) (c .before .before .if1 .left))
 
 pub feedback-after-spec : {M : Type 1} → statement M
 feedback-after-spec =
-    tie.close
-    (tie.spec
-    frame-type-requires
-    tells-status-requires
-    returns
-    feedback-in-requires
-    update-requires
-    returns-2)
+    tie.close (tie.spec tells-status-requires returns feedback-in-requires update-requires returns-2)

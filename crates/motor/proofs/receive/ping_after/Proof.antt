@@ -5,21 +5,16 @@ use Rattle.motor.specs.Receive.{pingAfter}
 use Rattle.motor.proofs.receive.ping_after.Statement.{statement}
 use Rattle.motor.proofs.receive.ping_after.Tie as tie
 
-frame-type-requires : tie.Need-frame-type-requires
-frame-type-requires c κs = search needs
-
 returns : tie.Need-returns
 unfolding pingAfter
-returns c = rw (← c .before .frame-type .ensures, ne-eqb _ _ (c .if1 .taken))
+returns c = rw (ne-eqb _ _ (c .if1 .taken))
 
-decode-ping-reply-requires : tie.Need-decode-ping-reply-requires
-decode-ping-reply-requires c κs = search needs
+ping-reply-requires : tie.Need-ping-reply-requires
+ping-reply-requires c κs = search needs
 
 returns-2 : tie.Need-returns-2
 unfolding pingAfter
-returns-2 c = let b = c .before .before .before in
-    rw (c .before .decode-ping-reply .ensures, ← b .before .frame-type .ensures, eq-eqb _ _ (b .if1 .left))
+returns-2 c = rw (c .ping-reply .ensures, eq-eqb _ _ (c .before .if1 .left))
 
 pub ping-after-spec : {M : Type 1} → statement M
-ping-after-spec =
-    tie.close (tie.spec frame-type-requires returns decode-ping-reply-requires returns-2)
+ping-after-spec = tie.close (tie.spec returns ping-reply-requires returns-2)

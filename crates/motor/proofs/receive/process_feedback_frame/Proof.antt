@@ -1,82 +1,66 @@
--- Right because 13 and 7 are tested first, and of a frame that passes only a read reply concerns the readings.
-use borrow.Author.Tests.{not-true, not-false}
+-- Right because a read reply concerns state and readings, any other frame the state alone (Editing, Receiving).
 use borrow.Author.Needs.{needs}
-use mathlib.Core.Path.{sym, _∙_}
-use Rattle.motor.proofs.Receiving.{heard-13, heard-7, heard-other}
+use lib.Dec.{eqb}
+use mathlib.Core.Path.{ap, sym, _∙_}
+use Rattle.codec.specs.declared.protocol.IdParts.{IdParts}
+use Rattle.motor.specs.Receive.{isRead}
+use Rattle.motor.proofs.Editing.{heard-read}
 use Rattle.motor.proofs.LoneReceiving.{heard-both}
+use Rattle.motor.proofs.Receiving.{heard-quiet}
 use Rattle.motor.proofs.receive.process_feedback_frame.Statement.{statement}
 use Rattle.motor.proofs.receive.process_feedback_frame.Tie as tie
 
-accepts-frame-requires : tie.Need-accepts-frame-requires
-accepts-frame-requires c κs = search needs
+ext-id-parts-requires : tie.Need-ext-id-parts-requires
+ext-id-parts-requires c κs = search needs
+
+is-read-requires : tie.Need-is-read-requires
+is-read-requires c κs = search needs
+
+hear-read-split-requires : tie.Need-hear-read-split-requires
+hear-read-split-requires c κs = search needs
+
+edited-by-requires : tie.Need-edited-by-requires
+edited-by-requires c κs = search needs
 
 heard-with-requires : tie.Need-heard-with-requires
 heard-with-requires c κs = search needs
 
 returns : tie.Need-returns
-returns c = let a = c .before .before in
-    let g = a .before .before .before in
-    heard-both (g .args .m) (g .args .frame) (g .args .now) (c .heard-with .result)
-    (rw (heard-13 (g .args .m) (g .args .frame) (g .args .now) (sym (a .accepts-frame .ensures) ∙ not-true (a .accepts-frame .result) (c .before .if1 .taken))) (c .heard-with .ensures))
+unfolding isRead
+returns c = let h = c .before .before .before .before in
+    let t = h .before .before in
+    let p = t .before .before in
+    let a = p .before .args in
+    let r = ap (λ (q : IdParts). eqb (q .«comm_type») 17) (sym (p .ext-id-parts .ensures)) ∙ sym (t .is-read .ensures) ∙ h .before .if1 .taken in
+    heard-both (a .m) (a .frame) (a .now) (c .heard-with .result)
+    (rw (heard-read (a .m) (a .frame) (a .now) r, ← p .ext-id-parts .ensures, ← h .hear-read-split .ensures .0, ← c .before .edited-by .ensures) (c .heard-with .ensures))
 
-is-late-requires : tie.Need-is-late-requires
-is-late-requires c κs = search needs
+hear-state-split-requires : tie.Need-hear-state-split-requires
+hear-state-split-requires c κs = search needs
 
 heard-with-requires-2 : tie.Need-heard-with-requires-2
 heard-with-requires-2 c κs = search needs
 
 returns-2 : tie.Need-returns-2
-returns-2 c = let l = c .before .before in
-    let a = l .before .before in
-    let g = a .before .before .before in
-    heard-both (g .args .m) (g .args .frame) (g .args .now) (c .heard-with2 .result)
-    (rw (heard-7 (g .args .m) (g .args .frame) (g .args .now) (sym (a .accepts-frame .ensures) ∙ not-false (a .accepts-frame .result) (l .before .if1 .left)) (sym (l .is-late .ensures) ∙ c .before .if2 .taken)) (c .heard-with2 .ensures))
-
-is-read-requires : tie.Need-is-read-requires
-is-read-requires c κs = search needs
-
-read-heard-requires : tie.Need-read-heard-requires
-read-heard-requires c κs = let r = c .before in
-    let l = r .before .before in
-    let a = l .before .before in
-    (sym (a .accepts-frame .ensures) ∙ not-false (a .accepts-frame .result) (l .before .if1 .left), sym (l .is-late .ensures) ∙ r .before .if2 .left, sym (r .is-read .ensures) ∙ c .if3 .taken)
-
-returns-3 : tie.Need-returns-3
-returns-3 c = let g = c .before .before .before .before .before .before .before .before .before in
-    heard-both (g .args .m) (g .args .frame) (g .args .now) (c .read-heard .result) (c .read-heard .ensures)
-
-counted-at-requires : tie.Need-counted-at-requires
-counted-at-requires c κs = search needs
-
-told-by-requires : tie.Need-told-by-requires
-told-by-requires c κs = search needs
-
-heard-with-requires-3 : tie.Need-heard-with-requires-3
-heard-with-requires-3 c κs = search needs
-
-returns-4 : tie.Need-returns-4
-returns-4 c = let r = c .before .before .before .before in
-    let l = r .before .before in
-    let a = l .before .before in
-    let g = a .before .before .before in
-    heard-both (g .args .m) (g .args .frame) (g .args .now) (c .heard-with3 .result)
-    (rw (heard-other (g .args .m) (g .args .frame) (g .args .now) (sym (a .accepts-frame .ensures) ∙ not-false (a .accepts-frame .result) (l .before .if1 .left)) (sym (l .is-late .ensures) ∙ r .before .if2 .left) (sym (r .is-read .ensures) ∙ c .before .before .before .if3 .left), ← c .before .before .counted-at .ensures, ← c .before .told-by .ensures)
-    (c .heard-with3 .ensures))
+unfolding isRead
+returns-2 c = let h = c .before .before in
+    let t = h .before .before in
+    let p = t .before .before in
+    let a = p .before .args in
+    let r = ap (λ (q : IdParts). eqb (q .«comm_type») 17) (sym (p .ext-id-parts .ensures)) ∙ sym (t .is-read .ensures) ∙ h .before .if1 .left in
+    heard-both (a .m) (a .frame) (a .now) (c .heard-with2 .result)
+    (rw (heard-quiet (a .m) (a .frame) (a .now) r, ← p .ext-id-parts .ensures, ← h .hear-state-split .ensures) (c .heard-with2 .ensures))
 
 pub process-feedback-frame-spec : {M : Type 1} → statement M
 process-feedback-frame-spec =
     tie.close
     (tie.spec
-    accepts-frame-requires
+    ext-id-parts-requires
+    is-read-requires
+    hear-read-split-requires
+    edited-by-requires
     heard-with-requires
     returns
-    is-late-requires
+    hear-state-split-requires
     heard-with-requires-2
-    returns-2
-    is-read-requires
-    read-heard-requires
-    returns-3
-    counted-at-requires
-    told-by-requires
-    heard-with-requires-3
-    returns-4)
+    returns-2)

@@ -14,11 +14,8 @@ when : (b : Bool) → not b ≡ false → b ≡ true
 when true e = refl
 when false e = absurd (true≢false e)
 
-source-of-requires : tie.Need-source-of-requires
-source-of-requires c κs = search needs
-
-accepts-frame-requires : tie.Need-accepts-frame-requires
-accepts-frame-requires c κs = search needs
+arrival-of-requires : tie.Need-arrival-of-requires
+arrival-of-requires c κs = search needs
 
 tell-requires : tie.Need-tell-requires
 tell-requires c κs = search needs
@@ -27,7 +24,7 @@ returns : tie.Need-returns
 returns c =
     let a = c .before .before .before .before .args in
     frame-clauses (a .st) (a .frame) (a .now) _
-    (frame-unheard (a .st) (a .frame) (a .now) _ (c .before .before .before .source-of .ensures) _ (c .before .before .accepts-frame .ensures) (unless _ (c .before .if1 .taken)) _ (c .tell .ensures))
+    (frame-unheard (a .st) (a .frame) (a .now) _ (c .before .before .before .arrival-of .ensures) (unless _ (c .before .if1 .taken)) _ (c .tell .ensures))
 
 taken-place-requires : tie.Need-taken-place-requires
 taken-place-requires c κs = search needs
@@ -45,7 +42,7 @@ returns-2 : tie.Need-returns-2
 returns-2 c =
     let a = c .before .before .before .before .before .before .before .before .before .args in
     frame-clauses (a .st) (a .frame) (a .now) _
-    (frame-found (a .st) (a .frame) (a .now) _ (c .before .before .before .before .before .before .before .before .source-of .ensures) _ (c .before .before .before .before .before .before .before .accepts-frame .ensures) (when _ (c .before .before .before .before .before .before .if1 .left)) _ (c .before .before .before .before .taken-place .ensures)
+    (frame-found (a .st) (a .frame) (a .now) _ (c .before .before .before .before .before .before .before .before .arrival-of .ensures) (when _ (c .before .before .before .before .before .before .if1 .left)) _ (c .before .before .before .before .taken-place .ensures)
     (c .before .before .before .if2 .taken) _ (c .before .before .motor-at .ensures) _ _ (c .before .process-feedback-frame .ensures .0) (c .heard-at .ensures))
 
 tell-requires-2 : tie.Need-tell-requires-2
@@ -55,15 +52,14 @@ returns-3 : tie.Need-returns-3
 returns-3 c =
     let a = c .before .before .before .before .before .before .before .args in
     frame-clauses (a .st) (a .frame) (a .now) _
-    (frame-none (a .st) (a .frame) (a .now) _ (c .before .before .before .before .before .before .source-of .ensures) _ (c .before .before .before .before .before .accepts-frame .ensures) (when _ (c .before .before .before .before .if1 .left)) _ (c .before .before .taken-place .ensures)
+    (frame-none (a .st) (a .frame) (a .now) _ (c .before .before .before .before .before .before .arrival-of .ensures) (when _ (c .before .before .before .before .if1 .left)) _ (c .before .before .taken-place .ensures)
     (c .before .if2 .left) _ (c .tell2 .ensures))
 
 pub frame-spec : {M : Type 1} → statement M
 frame-spec =
     tie.close
     (tie.spec
-    source-of-requires
-    accepts-frame-requires
+    arrival-of-requires
     tell-requires
     returns
     taken-place-requires

@@ -1,0 +1,48 @@
+-- Right because 13 and 7 are tested first, and a frame that passes is counted and tells.
+use borrow.Author.Needs.{needs}
+use Rattle.motor.proofs.quiet.hear_state_split.Statement.{statement}
+use Rattle.motor.proofs.quiet.hear_state_split.Tie as tie
+
+frame-admitted-requires : tie.Need-frame-admitted-requires
+frame-admitted-requires c κs = search needs
+
+enum-told : tie.Need-enum-told
+enum-told c = search needs
+
+counted-at-requires : tie.Need-counted-at-requires
+counted-at-requires c κs = search needs
+
+told-by-requires : tie.Need-told-by-requires
+told-by-requires c κs = search needs
+
+state-heard-requires : tie.Need-state-heard-requires
+state-heard-requires c κs = search needs
+
+returns : tie.Need-returns
+returns c = let k = c .before .before in
+    let a = k .before .before .before in
+    rw (← a .frame-admitted .ensures, k .before .enum-told .given .1, ← k .counted-at .ensures, ← c .before .told-by .ensures) (c .state-heard .ensures)
+
+enum-known-refusal : tie.Need-enum-known-refusal
+enum-known-refusal c = search needs
+
+state-heard-requires-2 : tie.Need-state-heard-requires-2
+state-heard-requires-2 c κs = search needs
+
+returns-2 : tie.Need-returns-2
+returns-2 c = let k = c .before in
+    rw (← k .before .before .before .frame-admitted .ensures, k .before .refusal .given .1) (c .state-heard2 .ensures)
+
+pub hear-state-split-spec : {M : Type 1} → statement M
+hear-state-split-spec =
+    tie.close
+    (tie.spec
+    frame-admitted-requires
+    enum-told
+    counted-at-requires
+    told-by-requires
+    state-heard-requires
+    returns
+    enum-known-refusal
+    state-heard-requires-2
+    returns-2)
