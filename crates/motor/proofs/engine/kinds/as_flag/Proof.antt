@@ -2,26 +2,31 @@
 use Prim.Native.Nat.{ℕ}
 use mathlib.Core.Path.{_≡_, refl}
 use mathlib.Core.List.{List, [], _∷_}
-use types.Run.{OneOf, miss}
+use mir.Val.{hasKey}
+use types.Run.{OneOf}
 use denote.Enum.Declared.{tagOf}
 use Rattle.codec.specs.declared.protocol.ParameterValue.{ParameterValue}
 use Rattle.codec.specs.declared.protocol.ParameterValue.the-variants as value
 use Rattle.codec.proofs.protocol.ParameterValue.{the-type}
 use borrow.Author.Needs.{needs}
+use Rattle.walks.proofs.LastArm.{Unless, others, unless}
 use Rattle.motor.specs.engine.Script.{asFlag, otherKind}
 use Rattle.motor.proofs.engine.kinds.as_flag.Statement.{statement}
 use Rattle.motor.proofs.engine.kinds.as_flag.Tie as tie
 
--- the other kinds, by their numbers
-abbrev rest : List ℕ
-rest = 0 ∷ 2 ∷ 3 ∷ 4 ∷ []
+-- the kind of a flag, by their numbers
+abbrev named : List ℕ
+named = 1 ∷ []
 
-another : (x : ParameterValue) → OneOf rest (tagOf the-type x) → asFlag x ≡ otherKind
-another (value.I8 v) h = refl
-another (value.U8 v) h = absurd (miss rest 1 tt h)
-another (value.U16 v) h = refl
-another (value.U32 v) h = refl
-another (value.F32 w) h = refl
+each : (x : ParameterValue) → Unless (hasKey named (tagOf the-type x)) (asFlag x ≡ otherKind)
+each (value.I8 v) = refl
+each (value.U8 v) = tt
+each (value.U16 v) = refl
+each (value.U32 v) = refl
+each (value.F32 w) = refl
+
+another : (x : ParameterValue) → OneOf (others the-type named) (tagOf the-type x) → asFlag x ≡ otherKind
+another x h = unless the-type named x (each x) h
 
 enum-known-reading : tie.Need-enum-known-reading
 enum-known-reading c = search needs

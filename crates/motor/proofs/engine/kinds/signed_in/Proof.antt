@@ -2,7 +2,8 @@
 use Prim.Native.Nat.{ℕ}
 use mathlib.Core.Path.{_≡_, refl}
 use mathlib.Core.List.{List, [], _∷_}
-use types.Run.{OneOf, miss}
+use mir.Val.{hasKey}
+use types.Run.{OneOf}
 use denote.Enum.Declared.{tagOf}
 use Rattle.codec.proofs.TwosComplement.{back}
 use Rattle.motor.specs.declared.engine.kinds.SignedIn.the-variants as signed
@@ -10,20 +11,24 @@ use Rattle.codec.specs.declared.protocol.ParameterValue.{ParameterValue}
 use Rattle.codec.specs.declared.protocol.ParameterValue.the-variants as value
 use Rattle.codec.proofs.protocol.ParameterValue.{the-type}
 use borrow.Author.Needs.{needs}
+use Rattle.walks.proofs.LastArm.{Unless, others, unless}
 use Rattle.motor.specs.engine.Script.{signedIn}
 use Rattle.motor.proofs.engine.kinds.signed_in.Statement.{statement}
 use Rattle.motor.proofs.engine.kinds.signed_in.Tie as tie
 
--- the other kinds, by their numbers
-abbrev rest : List ℕ
-rest = 1 ∷ 2 ∷ 3 ∷ 4 ∷ []
+-- the signed kind, by their numbers
+abbrev named : List ℕ
+named = 0 ∷ []
 
-another : (x : ParameterValue) → OneOf rest (tagOf the-type x) → signedIn x ≡ signed.Another
-another (value.I8 v) h = absurd (miss rest 0 tt h)
-another (value.U8 v) h = refl
-another (value.U16 v) h = refl
-another (value.U32 v) h = refl
-another (value.F32 w) h = refl
+each : (x : ParameterValue) → Unless (hasKey named (tagOf the-type x)) (signedIn x ≡ signed.Another)
+each (value.I8 v) = tt
+each (value.U8 v) = refl
+each (value.U16 v) = refl
+each (value.U32 v) = refl
+each (value.F32 w) = refl
+
+another : (x : ParameterValue) → OneOf (others the-type named) (tagOf the-type x) → signedIn x ≡ signed.Another
+another x h = unless the-type named x (each x) h
 
 enum-known-reading : tie.Need-enum-known-reading
 enum-known-reading c = search needs

@@ -2,7 +2,8 @@
 use Prim.Native.Nat.{ℕ}
 use mathlib.Core.Path.{_≡_, refl}
 use mathlib.Core.List.{List, [], _∷_}
-use types.Run.{OneOf, miss}
+use mir.Val.{hasKey}
+use types.Run.{OneOf}
 use denote.Enum.Declared.{tagOf}
 use Rattle.motor.specs.declared.engine.node.Got.{Got}
 use Rattle.motor.specs.declared.engine.node.Got.the-variants as got
@@ -10,24 +11,28 @@ use Rattle.motor.specs.engine.Operations.{noValue}
 use Rattle.motor.specs.engine.Script.{failedBySilence}
 use Rattle.motor.proofs.engine.node.Got.{the-type}
 use borrow.Author.Needs.{needs}
+use Rattle.walks.proofs.LastArm.{Unless, others, unless}
 use Rattle.motor.proofs.engine.operations.no_value.Statement.{statement}
 use Rattle.motor.proofs.engine.operations.no_value.Tie as tie
 
--- those that fail, by their numbers
-abbrev rest : List ℕ
-rest = 0 ∷ 1 ∷ 2 ∷ 3 ∷ 4 ∷ 5 ∷ 6 ∷ 7 ∷ []
+-- ensure_control_mode, by their numbers
+abbrev named : List ℕ
+named = 8 ∷ 9 ∷ []
 
-fails : (x : Got) → OneOf rest (tagOf the-type x) → noValue x ≡ failedBySilence
-fails got.Value h = refl
-fails got.Flag h = refl
-fails got.F32 h = refl
-fails got.I8 h = refl
-fails got.Mode h = refl
-fails (got.StopMode timeout) h = refl
-fails got.StopCsp h = refl
-fails got.StopMit h = refl
-fails (got.EnsureFirst a) h = absurd (miss rest 8 tt h)
-fails (got.EnsureBack a) h = absurd (miss rest 9 tt h)
+each : (x : Got) → Unless (hasKey named (tagOf the-type x)) (noValue x ≡ failedBySilence)
+each got.Value = refl
+each got.Flag = refl
+each got.F32 = refl
+each got.I8 = refl
+each got.Mode = refl
+each (got.StopMode timeout) = refl
+each got.StopCsp = refl
+each got.StopMit = refl
+each (got.EnsureFirst a) = tt
+each (got.EnsureBack a) = tt
+
+fails : (x : Got) → OneOf (others the-type named) (tagOf the-type x) → noValue x ≡ failedBySilence
+fails x h = unless the-type named x (each x) h
 
 enum-known-then : tie.Need-enum-known-then
 enum-known-then c = search needs

@@ -2,7 +2,8 @@
 use Prim.Native.Nat.{ℕ}
 use mathlib.Core.Path.{_≡_, refl}
 use mathlib.Core.List.{List, [], _∷_}
-use types.Run.{OneOf, miss}
+use mir.Val.{hasKey}
+use types.Run.{OneOf}
 use denote.Enum.Declared.{tagOf}
 use Rattle.motor.specs.declared.engine.node.Acked.{Acked}
 use Rattle.motor.specs.declared.engine.node.Acked.the-variants as acked
@@ -10,25 +11,29 @@ use Rattle.motor.specs.engine.Operations.{notAcked}
 use Rattle.motor.specs.engine.Script.{failedBySilence}
 use Rattle.motor.proofs.engine.node.Acked.{the-type}
 use borrow.Author.Needs.{needs}
+use Rattle.walks.proofs.LastArm.{Unless, others, unless}
 use Rattle.motor.proofs.engine.operations.not_acked.Statement.{statement}
 use Rattle.motor.proofs.engine.operations.not_acked.Tie as tie
 
--- those that fail, by their numbers
-abbrev rest : List ℕ
-rest = 0 ∷ 1 ∷ 2 ∷ 3 ∷ 4 ∷ 5 ∷ 6 ∷ 7 ∷ 8 ∷ 9 ∷ []
+-- ensure_control_mode, by their numbers
+abbrev named : List ℕ
+named = 10 ∷ []
 
-fails : (x : Acked) → OneOf rest (tagOf the-type x) → notAcked x ≡ failedBySilence
-fails acked.Done h = refl
-fails acked.FaultCleared h = refl
-fails acked.ZeroState h = refl
-fails (acked.Stopped m) h = refl
-fails (acked.CspEnable position most) h = refl
-fails (acked.CspLimit position most) h = refl
-fails (acked.PpEnable position most acceleration) h = refl
-fails (acked.PpVelocity position most acceleration) h = refl
-fails (acked.PpAcceleration position acceleration) h = refl
-fails (acked.Target position) h = refl
-fails (acked.Ensure stage a) h = absurd (miss rest 10 tt h)
+each : (x : Acked) → Unless (hasKey named (tagOf the-type x)) (notAcked x ≡ failedBySilence)
+each acked.Done = refl
+each acked.FaultCleared = refl
+each acked.ZeroState = refl
+each (acked.Stopped m) = refl
+each (acked.CspEnable position most) = refl
+each (acked.CspLimit position most) = refl
+each (acked.PpEnable position most acceleration) = refl
+each (acked.PpVelocity position most acceleration) = refl
+each (acked.PpAcceleration position acceleration) = refl
+each (acked.Target position) = refl
+each (acked.Ensure stage a) = tt
+
+fails : (x : Acked) → OneOf (others the-type named) (tagOf the-type x) → notAcked x ≡ failedBySilence
+fails x h = unless the-type named x (each x) h
 
 enum-known-then : tie.Need-enum-known-then
 enum-known-then c = search needs

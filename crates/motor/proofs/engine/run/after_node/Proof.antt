@@ -2,7 +2,8 @@
 use Prim.Native.Nat.{ℕ}
 use mathlib.Core.Path.{_≡_, refl}
 use mathlib.Core.List.{List, [], _∷_}
-use types.Run.{OneOf, miss}
+use mir.Val.{hasKey}
+use types.Run.{OneOf}
 use denote.Enum.Declared.{tagOf}
 use Rattle.motor.specs.declared.engine.node.Node.{Node}
 use Rattle.motor.specs.declared.engine.node.Node.the-variants as node
@@ -10,24 +11,28 @@ use Rattle.motor.specs.declared.engine.run.AfterNode.the-variants as aft
 use Rattle.motor.specs.engine.Run.{afterNode}
 use Rattle.motor.proofs.engine.node.Node.{the-type}
 use borrow.Author.Needs.{needs}
+use Rattle.walks.proofs.LastArm.{Unless, others, unless}
 use Rattle.motor.proofs.engine.run.after_node.Statement.{statement}
 use Rattle.motor.proofs.engine.run.after_node.Tie as tie
 
--- the nodes that go on, by their numbers
-abbrev rest : List ℕ
-rest = 1 ∷ 2 ∷ 3 ∷ 5 ∷ 6 ∷ 7 ∷ 8 ∷ 9 ∷ []
+-- the nodes that end or pause, by their numbers
+abbrev named : List ℕ
+named = 0 ∷ 4 ∷ []
 
-goes : (x : Node) → OneOf rest (tagOf the-type x) → afterNode x ≡ after.Goes
-goes (node.Finish r) h = absurd (miss rest 0 tt h)
-goes node.Report h = refl
-goes node.ClearFault h = refl
-goes (node.Fail r) h = refl
-goes (node.Pause d k) h = absurd (miss rest 4 tt h)
-goes (node.Last r) h = refl
-goes (node.Write id v k) h = refl
-goes (node.Await w window whom) h = refl
-goes (node.Motion p v kp kd t r) h = refl
-goes (node.Rename new) h = refl
+each : (x : Node) → Unless (hasKey named (tagOf the-type x)) (afterNode x ≡ after.Goes)
+each (node.Finish r) = tt
+each node.Report = refl
+each node.ClearFault = refl
+each (node.Fail r) = refl
+each (node.Pause d k) = tt
+each (node.Last r) = refl
+each (node.Write id v k) = refl
+each (node.Await w window whom) = refl
+each (node.Motion p v kp kd t r) = refl
+each (node.Rename new) = refl
+
+goes : (x : Node) → OneOf (others the-type named) (tagOf the-type x) → afterNode x ≡ after.Goes
+goes x h = unless the-type named x (each x) h
 
 enum-known-node : tie.Need-enum-known-node
 enum-known-node c = search needs
