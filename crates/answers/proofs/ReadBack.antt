@@ -1,16 +1,21 @@
 -- What is printed is read back by session: a command's name as its row, a frame as that frame. Assumes nothing.
 use Prim.Native.Nat.{ℕ, zero, suc, _+_, _*_, _-_, _/_, _%_, _^_, _≤_, _<_}
-use mathlib.Core.Path.{_≡_, refl, ap, _∙_}
-use mathlib.Core.Bool.{true}
+use mathlib.Core.Path.{_≡_, refl, sym, ap, subst, _∙_}
+use mathlib.Core.Bool.{Bool, true, false, _&&_}
 use mathlib.Core.List.{List, [], _∷_, _++_, append-nil, append-assoc}
 use native.Mathlib.Omega.{arith}
+use native.Mathlib.Nat.{not-suc-le-zero}
+use lib.Dec.{T, eqb, eqb→eq}
+use lib.Ieee.Fits.{and-l, and-r}
 use lib.ListN.{length, take, drop, getD, length-append}
 use lib.Seq.{take-at, drop-at, getD-at}
-use borrow.Author.Tests.{le-ltb, lt-ltb, lt-leb, ne-eqb}
+use borrow.Author.Tests.{le-ltb, lt-ltb, lt-leb, ne-eqb, eqb-true, eqb-false}
+use borrow.Enum.Match.{tag-small}
+use denote.Enum.Declared.{variants}
 use Rattle.bytes.specs.Bytes.{indexOf, indexAfter}
 use Rattle.codec.specs.declared.bus.CanFrame.{CanFrame}
 use Rattle.motor.specs.declared.engine.command.Command.{Command}
-use Rattle.motor.specs.declared.engine.command.Command.the-variants as command
+use Rattle.motor.proofs.engine.command.Command.{the-type}
 use Rattle.text.specs.declared.numbers.Num.the-variants.{Value}
 use Rattle.text.specs.Ascii.{ascii}
 use Rattle.text.specs.Numbers.{digitsIn, readFrom}
@@ -20,7 +25,7 @@ use Rattle.text.proofs.Reading.{some}
 use Rattle.text.proofs.ReadBack.{glyph-range, read-glyph, read-digits, digits-length, digits-back, decimal-some, decimal-back, index-past, free-append, digits-free, decimal-free, word-first, word-later, word-only, words-past}
 use Rattle.session.specs.Events.{payload, canFrame, hands}
 use Rattle.session.specs.Table.{commands, placeOf}
-use Rattle.session.specs.Commands.{commandOf, driven, parameterOf, startedBy, started}
+use Rattle.session.specs.Commands.{commandOf, startedBy, started}
 use Rattle.session.specs.Heard.{millisecondsOf, stampIn, stampOf, shiftedBy, dataOf, dataFrame, loggedFrame, heardIn}
 use Rattle.session.specs.Lines.{readLine}
 use Rattle.answers.specs.Values.{payloadNumber}
@@ -36,33 +41,42 @@ Row c v =
     (placeOf commands (commandText c) ≡ 2 * commandPlace c)
     × (commandPlace (commandOf (commandPlace c) v) ≡ commandPlace c)
 
+-- a test at each number below n
+abbrev below : (ℕ → Bool) → ℕ → Bool
+below p zero = true
+below p (suc n) = p n && below p n
+
+at-each : (p : ℕ → Bool) (n : ℕ) → T (below p n) → (k : ℕ) → k < n → T (p k)
+at-each p zero t k h = absurd (not-suc-le-zero h)
+at-each p (suc n) t k h = go (eqb k n) refl (at-each p n (and-r (p n) (below p n) t) k)
+  where
+    go : (b : Bool) → eqb k n ≡ b → (k < n → T (p k)) → T (p k)
+    go true e before = subst (λ (m : ℕ). T (p m)) (sym (eqb-true k n e)) (and-l (p n) (below p n) t)
+    go false e before = let apart : k ≡ n → ⊥ = eqb-false k n e in before (omega arith)
+
+isFound : ℕ → Bool
+isFound k = eqb (placeOf commands (wordAt commands (2 * k))) (2 * k)
+
+isKept : List ℕ → ℕ → Bool
+isKept v k = eqb (commandPlace (commandOf k v)) k
+
+abbrev rows : ℕ
+rows = length (variants the-type)
+
+each-found : T (below isFound rows)
+unfolding isFound placeOf whichOf wordCount wordAt sameBytes indexOf indexAfter
+each-found = tt
+
+each-kept : (v : List ℕ) → T (below (isKept v) rows)
+unfolding isKept commandOf
+each-kept v = tt
+
 row : (c : Command) (v : List ℕ) → Row c v
-unfolding placeOf whichOf wordCount wordAt sameBytes indexOf indexAfter commandPlace commandOf driven parameterOf
-row (command.Ping t) v = (refl, refl)
-row (command.PingWithHostId h t) v = (refl, refl)
-row (command.SetMode m) v = (refl, refl)
-row (command.EnsureControlMode m t) v = (refl, refl)
-row command.SetZeroPosition v = (refl, refl)
-row command.SaveParameters v = (refl, refl)
-row (command.GetProtocolFlag t) v = (refl, refl)
-row (command.SetProtocol p t) v = (refl, refl)
-row (command.SetDeviceId n) v = (refl, refl)
-row command.Enable v = (refl, refl)
-row command.Disable v = (refl, refl)
-row command.ClearError v = (refl, refl)
-row (command.SetActiveReport b) v = (refl, refl)
-row (command.SendCmdMit p s kp kd t) v = (refl, refl)
-row (command.SetVelocityTarget s) v = (refl, refl)
-row (command.GetControlMode t) v = (refl, refl)
-row (command.ControlledStop t) v = (refl, refl)
-row (command.WriteParameter id w) v = (refl, refl)
-row (command.SendCmdPosVelCsp p s) v = (refl, refl)
-row (command.SendCmdPosVelPp p s a) v = (refl, refl)
-row (command.RequestParameter id) v = (refl, refl)
-row (command.GetParameter id t) v = (refl, refl)
-row (command.GetParameterWithHostId id h t) v = (refl, refl)
-row (command.GetParameterF32 id t) v = (refl, refl)
-row (command.GetParameterI8 id t) v = (refl, refl)
+unfolding isFound isKept
+row c v =
+    let k = commandPlace c in
+    let h : k < rows = tag-small the-type c in
+    (eqb→eq _ _ (at-each isFound rows each-found k h), eqb→eq _ _ (at-each (isKept v) rows (each-kept v) k h))
 
 -- a start with the name that is printed for a command is read as its row says
 pub command-read-back : (c : Command) (line : List ℕ) → wordAt line 3 ≡ commandText c

@@ -27,7 +27,7 @@ use Rattle.motor.specs.engine.Operations.{beginsWith}
 use Rattle.motor.specs.Readings.{lookup, room}
 use Rattle.motor.specs.Receive.{acceptsFrame, isLate, countedAt, toldBy, isRead, readId, readStatus, frameSaid, stateAfter}
 use Rattle.motor.specs.engine.Run.{advanced, begunBy}
-use Rattle.motor.proofs.Follows.{begin-fits}
+use Rattle.motor.proofs.Commands.{begins-paced, frames-within, limit-within, steps-within}
 use Rattle.motor.proofs.Measures.{by-test, nodeLeft, restLeft, phaseLeft, opLeft}
 use Rattle.motor.proofs.MovesBounded.{Moved, enter-moves, advance-moves}
 
@@ -44,7 +44,7 @@ started : (f d now : ℕ) (l : Lone) (c : Command)
     → Moved f d longestTimeout now (omega arith) (nodeLeft f d (beginsWith c)) (begunBy (sightOf (l .state)) now c)
 started f d now l c =
     enter-moves f d longestTimeout now (omega arith) (nodeLeft f d (beginsWith c)) (nodeLeft f d (beginsWith c)) (sightOf (l .state)) (beginsWith c)
-    (omega arith, begin-fits c .3) (omega arith)
+    (omega arith, begins-paced c) (omega arith)
 
 -- most: how far due times may lie from now
 step-moves : (f d most now : ℕ) (far : longestTimeout ≤ most) (l : Lone) → opOf l .window ≤ most → opOf l .due ≤ now + most
@@ -214,12 +214,12 @@ bounds =
       frames =
           λ l c now es h.
           accepted l c now (λ a. once (hasFrame (a .said)) + count sends (a .lone) es ≤ limitOf c) h
-          (omega (arith, begin-fits c .0, started 1 0 now l c .paid, frames-sent (begun l c now .lone) es));
-      limits = λ c. begin-fits c .1;
+          (omega (arith, frames-within c, started 1 0 now l c .paid, frames-sent (begun l c now .lone) es));
+      limits = λ c. limit-within c;
       steps =
           λ l c now es h.
           accepted l c now (λ a. count isDue (a .lone) es ≤ mostDueSteps) h
-          (omega (arith, begin-fits c .2, started 0 1 now l c .paid, due-steps (begun l c now .lone) es));
+          (omega (arith, steps-within c, started 0 1 now l c .paid, due-steps (begun l c now .lone) es));
       waits = λ l now d h e. (waits-later l now d e, omega (arith, waits-later l now d e));
       started =
           λ id host model wait since es c now.

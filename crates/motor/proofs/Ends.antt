@@ -34,7 +34,8 @@ use Rattle.motor.specs.Calls.{isIdle, arguedOf, encodes}
 use Rattle.motor.specs.engine.Hosts.{nextHost}
 use Rattle.motor.specs.engine.Operations.{beginsWith, ackedOf, gotValue, gotPing, windowsGone}
 use Rattle.motor.specs.engine.Run.{noOperation, waits, countBy, sendThen, afterNode, write, entered, retried, retryAt, looked, advanced, begunBy}
-use Rattle.motor.proofs.GoodNodes.{endsBy, Good, ok-good, got-good, pinged-good, gone-good, begins-good}
+use Rattle.motor.proofs.GoodNodes.{endsBy, Good, ok-good, got-good, pinged-good, gone-good}
+use Rattle.motor.proofs.Commands.{begins-good}
 
 -- finished or failed leaves no operation; failed, it is by one of those numbers, and nothing that is held changes
 abbrev pub Closed : Said → Operation → Effect → Type 0

@@ -1,7 +1,6 @@
--- What follows each end of a wait is within what was left there, and paced; so is how each operation begins. Assumes nothing.
+-- What follows each end of a wait is within what was left there, and paced. Assumes nothing.
 use Prim.Native.Nat.{ℕ, zero, suc, _+_, _*_, _≤_}
 use native.Mathlib.Omega.{arith}
-use lib.Dec.{eqb}
 use Rattle.codec.specs.declared.protocol.ParameterValue.{ParameterValue}
 use Rattle.codec.specs.declared.protocol.ParameterValue.the-variants as value
 use Rattle.codec.specs.declared.registers.ControlMode.{ControlMode}
@@ -10,8 +9,6 @@ use Rattle.codec.specs.declared.registers.ModeRead.{ModeRead}
 use Rattle.codec.specs.declared.registers.ModeRead.the-variants as read
 use Rattle.codec.specs.declared.word.Word.{Word}
 use lib.IntN.{ℤ}
-use Rattle.motor.specs.declared.engine.command.Command.{Command}
-use Rattle.motor.specs.declared.engine.command.Command.the-variants as command
 use Rattle.motor.specs.declared.engine.operation.Sight.{Sight}
 use Rattle.motor.specs.declared.engine.kinds.FloatIn.{FloatIn}
 use Rattle.motor.specs.declared.engine.kinds.FloatIn.the-variants as float
@@ -29,11 +26,9 @@ use Rattle.motor.specs.declared.engine.node.Pinged.{Pinged}
 use Rattle.motor.specs.declared.engine.node.Pinged.the-variants as pinged
 use Rattle.motor.specs.declared.engine.node.Wait.{Wait}
 use Rattle.motor.specs.declared.engine.node.Wait.the-variants as wait
-use Rattle.motor.specs.Limits.{mostDueSteps, mostFrames}
-use Rattle.motor.specs.Bounds.{limitOf}
-use Rattle.motor.specs.engine.Operations.{beginsWith, ackedOf, notAcked, gotValue, noValue, gotPing, windowsGone}
+use Rattle.motor.specs.engine.Operations.{ackedOf, notAcked, gotValue, noValue, gotPing, windowsGone}
 use Rattle.motor.specs.engine.Script.{signedIn, floatIn, asFlag, asSigned, asFloat, modeOr17, modeIn, stopIn, absOf, isUsable, limit, tryIn, firstRead, backRead, isMode, ensureAcked, ensureLost}
-use Rattle.motor.proofs.Measures.{by-test, Paced, window-small, four, tries, ackedLeft, gotLeft, pingedLeft, waitLeft, nodeLeft, Fits}
+use Rattle.motor.proofs.Measures.{by-test, window-small, four, tries, ackedLeft, gotLeft, pingedLeft, waitLeft, Fits}
 
 module _ (f d : ℕ) where
   -- ---- after an acknowledgement or a pause
@@ -164,39 +159,3 @@ module _ (f d : ℕ) where
   pub pinged-fits : (k : Pinged) → Fits f d (pingedLeft f d k) (gotPing k)
   pinged-fits pinged.Report = (omega arith, tt)
   pinged-fits (pinged.Rename new) = (omega arith, tt)
-
--- ---- how an operation begins
-
--- at most the limit's frames and 40 due steps, the limit at most 32
-abbrev Begins : ℕ → Node → Type 0
-Begins m n = (nodeLeft 1 0 n ≤ m) × (m ≤ mostFrames) × (nodeLeft 0 1 n ≤ mostDueSteps) × Paced n
-
-pub begin-fits : (c : Command) → Begins (limitOf c) (beginsWith c)
-begin-fits (command.Ping timeout) = (omega arith, omega arith, omega arith, window-small timeout 120 (omega arith))
-begin-fits (command.PingWithHostId host timeout) = (omega arith, omega arith, omega arith, window-small timeout 0 (omega arith))
-begin-fits (command.SetMode m) = (omega arith, omega arith, omega arith, tt)
-begin-fits (command.EnsureControlMode m timeout) = (omega arith, omega arith, omega arith, window-small timeout 150 (omega arith))
-begin-fits command.SetZeroPosition = (omega arith, omega arith, omega arith, omega arith)
-begin-fits command.SaveParameters = (omega arith, omega arith, omega arith, omega arith)
-begin-fits (command.GetProtocolFlag timeout) = (omega arith, omega arith, omega arith, window-small timeout 150 (omega arith))
-begin-fits (command.SetProtocol protocol timeout) =
-    by-test (λ t n. Begins 4 n) (eqb timeout 0) (λ e. (omega arith, omega arith, omega arith, tt))
-    (λ e. (omega arith, omega arith, omega arith, window-small timeout 120 (omega arith)))
-begin-fits (command.SetDeviceId new) = (omega arith, omega arith, omega arith, window-small 140 120 (omega arith))
-begin-fits command.Enable = (omega arith, omega arith, omega arith, omega arith)
-begin-fits command.Disable = (omega arith, omega arith, omega arith, omega arith)
-begin-fits command.ClearError = (omega arith, omega arith, omega arith, omega arith)
-begin-fits (command.SetActiveReport on) = (omega arith, omega arith, omega arith, tt)
-begin-fits (command.SendCmdMit p v kp kd t) = (omega arith, omega arith, omega arith, tt)
-begin-fits (command.SetVelocityTarget v) = (omega arith, omega arith, omega arith, tt)
-begin-fits (command.GetControlMode timeout) = (omega arith, omega arith, omega arith, window-small timeout 150 (omega arith))
-begin-fits (command.ControlledStop timeout) = (omega arith, omega arith, omega arith, window-small timeout 150 (omega arith))
-begin-fits (command.WriteParameter id v) = (omega arith, omega arith, omega arith, tt)
-begin-fits (command.SendCmdPosVelCsp p v) = (omega arith, omega arith, omega arith, tt)
-begin-fits (command.SendCmdPosVelPp p v a) = (omega arith, omega arith, omega arith, tt)
-begin-fits (command.RequestParameter id) = (omega arith, omega arith, omega arith, tt)
-begin-fits (command.GetParameter id timeout) = (omega arith, omega arith, omega arith, window-small timeout 150 (omega arith))
-begin-fits (command.GetParameterWithHostId id host timeout) =
-    (omega arith, omega arith, omega arith, window-small timeout 0 (omega arith))
-begin-fits (command.GetParameterF32 id timeout) = (omega arith, omega arith, omega arith, window-small timeout 150 (omega arith))
-begin-fits (command.GetParameterI8 id timeout) = (omega arith, omega arith, omega arith, window-small timeout 150 (omega arith))

@@ -21,8 +21,6 @@ use Rattle.codec.specs.Kinds.{among, listedIds, int8Ids, uint8Ids, uint16Ids, u
 use Rattle.codec.specs.Modes.{controlModeFromRaw}
 use Rattle.codec.specs.Refusals.{numberOf}
 use Rattle.codec.specs.Values.{encodeParameterValue}
-use Rattle.motor.specs.declared.engine.command.Command.{Command}
-use Rattle.motor.specs.declared.engine.command.Command.the-variants as command
 use Rattle.motor.specs.declared.engine.operation.Sight.{Sight}
 use Rattle.motor.specs.declared.engine.kinds.FloatIn.{FloatIn}
 use Rattle.motor.specs.declared.engine.kinds.FloatIn.the-variants as float
@@ -41,8 +39,8 @@ use Rattle.motor.specs.declared.engine.node.Pinged.{Pinged}
 use Rattle.motor.specs.declared.engine.node.Pinged.the-variants as pinged
 use Rattle.motor.specs.declared.engine.node.Wait.{Wait}
 use Rattle.motor.specs.declared.engine.node.Wait.the-variants as wait
-use Rattle.motor.specs.Calls.{arguedOf, encodes}
-use Rattle.motor.specs.engine.Operations.{beginsWith, ackedOf, notAcked, gotValue, noValue, gotPing, windowsGone}
+use Rattle.motor.specs.Calls.{encodes}
+use Rattle.motor.specs.engine.Operations.{ackedOf, notAcked, gotValue, noValue, gotPing, windowsGone}
 use Rattle.motor.specs.engine.Script.{asMode, modeOr17, signedIn, floatIn, asFlag, asSigned, asFloat, stopIn, isUsable, absOf, isMode, firstRead, backRead, tryIn, ensureAcked}
 
 -- the numbers by which an operation may fail
@@ -195,31 +193,3 @@ unfolding among
 gone-good (wait.Acknowledged by r k) = lost-good k
 gone-good (wait.Value id k) = lost-got-good k
 gone-good (wait.Ping k) = refl
-
-pub begins-good : (c : Command) → arguedOf c ≡ checked.Passed → Good (beginsWith c)
-unfolding parameterInfo kindOf among listedIds int8Ids uint8Ids uint16Ids uint32Ids
-begins-good (command.Ping timeout) h = tt
-begins-good (command.PingWithHostId host timeout) h = tt
-begins-good (command.SetMode m) h = refl
-begins-good (command.EnsureControlMode m timeout) h = tt
-begins-good command.SetZeroPosition h = tt
-begins-good command.SaveParameters h = tt
-begins-good (command.GetProtocolFlag timeout) h = tt
-begins-good (command.SetProtocol protocol timeout) h = either-good (eqb timeout 0) _ _ tt tt
-begins-good (command.SetDeviceId new) h = tt
-begins-good command.Enable h = tt
-begins-good command.Disable h = tt
-begins-good command.ClearError h = tt
-begins-good (command.SetActiveReport on) h = tt
-begins-good (command.SendCmdMit position velocity kp kd torque) h = tt
-begins-good (command.SetVelocityTarget velocity) h = refl
-begins-good (command.GetControlMode timeout) h = tt
-begins-good (command.ControlledStop timeout) h = tt
-begins-good (command.WriteParameter id v) h = h
-begins-good (command.SendCmdPosVelCsp position most) h = refl
-begins-good (command.SendCmdPosVelPp position most acceleration) h = refl
-begins-good (command.RequestParameter id) h = tt
-begins-good (command.GetParameter id timeout) h = tt
-begins-good (command.GetParameterWithHostId id host timeout) h = tt
-begins-good (command.GetParameterF32 id timeout) h = tt
-begins-good (command.GetParameterI8 id timeout) h = tt

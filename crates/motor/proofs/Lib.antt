@@ -25,6 +25,7 @@ pub mod Follows
 pub mod MovesBounded
 pub mod Bounds
 pub mod GoodNodes
+pub mod Commands
 pub mod Ends
 pub mod Stays
 pub mod Clock

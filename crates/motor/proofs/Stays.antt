@@ -17,12 +17,12 @@ use Rattle.codec.specs.Kinds.{among, kindNumber, parameterInfo}
 use Rattle.codec.specs.Refusals.{numberOf}
 use Rattle.codec.specs.Values.{kindIn, rawOf, encodedBy}
 use Rattle.motor.specs.declared.engine.command.Command.{Command}
-use Rattle.motor.specs.declared.engine.command.Command.the-variants as command
 use Rattle.motor.specs.declared.engine.command.Said.{Said}
 use Rattle.motor.specs.declared.engine.command.Said.the-variants as said
 use Rattle.motor.specs.declared.engine.operation.Phase.{Phase}
+use Rattle.motor.specs.Commands.{Argument, noArgument, namedHost, newDeviceId, newProtocol, writtenValue, commandRow}
 use Rattle.motor.specs.Limits.{longestTimeout}
-use Rattle.motor.specs.Calls.{isIdle, timeoutOf, arguedOf, encodes, orElse, startAdmitted, startSaid, stepSaid}
+use Rattle.motor.specs.Calls.{isIdle, timeoutOf, arguedOf, encodes, tested, orElse, startAdmitted, startSaid, stepSaid}
 use Rattle.motor.specs.Numbers.{firstOf}
 use Rattle.motor.specs.Receive.{isLate}
 
@@ -78,39 +78,19 @@ written-stays (info.Listed kind) v = go (eqb (kindNumber kind) (kindNumber (kind
     go true = tt
     go false = refl
 
-argued-stays : (c : Command) → Stays (arguedOf c)
+argued-stays : (a : Argument) → Stays (tested a)
 unfolding among
-argued-stays (command.Ping timeout) = tt
-argued-stays (command.PingWithHostId host timeout) = one-stays (ltb 255 host) _ refl
-argued-stays (command.SetMode m) = tt
-argued-stays (command.EnsureControlMode m timeout) = tt
-argued-stays command.SetZeroPosition = tt
-argued-stays command.SaveParameters = tt
-argued-stays (command.GetProtocolFlag timeout) = tt
-argued-stays (command.SetProtocol protocol timeout) = one-stays (ltb 2 protocol) _ refl
-argued-stays (command.SetDeviceId new) = one-stays (eqb new 0) _ refl
-argued-stays command.Enable = tt
-argued-stays command.Disable = tt
-argued-stays command.ClearError = tt
-argued-stays (command.SetActiveReport on) = tt
-argued-stays (command.SendCmdMit position velocity kp kd torque) = tt
-argued-stays (command.SetVelocityTarget velocity) = tt
-argued-stays (command.GetControlMode timeout) = tt
-argued-stays (command.ControlledStop timeout) = tt
-argued-stays (command.WriteParameter id v) = written-stays (parameterInfo id) v
-argued-stays (command.SendCmdPosVelCsp position most) = tt
-argued-stays (command.SendCmdPosVelPp position most acceleration) = tt
-argued-stays (command.RequestParameter id) = tt
-argued-stays (command.GetParameter id timeout) = tt
-argued-stays (command.GetParameterWithHostId id host timeout) = one-stays (ltb 255 host) _ refl
-argued-stays (command.GetParameterF32 id timeout) = tt
-argued-stays (command.GetParameterI8 id timeout) = tt
+argued-stays noArgument = tt
+argued-stays (namedHost id) = one-stays (ltb 255 id) _ refl
+argued-stays (newDeviceId id) = one-stays (eqb id 0) _ refl
+argued-stays (newProtocol n) = one-stays (ltb 2 n) _ refl
+argued-stays (writtenValue id v) = written-stays (parameterInfo id) v
 
 pub start-stays : (clock : ℕ) (p : Phase) (c : Command) (now : ℕ) → Stays (startSaid clock p c now)
 start-stays clock p c now = go (startAdmitted clock p c now) (admitted-stays clock p c now)
   where
     go : (a : Checked) → Stays a → Stays (orElse a (arguedOf c))
-    go checked.Passed h = argued-stays c
+    go checked.Passed h = argued-stays (commandRow c .argument)
     go (checked.Refused r) h = h
 
 pub step-stays : (clock : ℕ) (p : Phase) (now : ℕ) → Stays (stepSaid clock p now)

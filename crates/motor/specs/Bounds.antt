@@ -9,10 +9,10 @@ use Rattle.codec.specs.declared.error.Checked.{Checked}
 use Rattle.codec.specs.declared.error.Checked.the-variants as checked
 use Rattle.codec.specs.declared.model.Model.{Model}
 use Rattle.motor.specs.declared.engine.command.Command.{Command}
-use Rattle.motor.specs.declared.engine.command.Command.the-variants as command
 use Rattle.motor.specs.declared.engine.command.Said.{Said}
 use Rattle.motor.specs.declared.engine.command.Said.the-variants as said
 use Rattle.motor.specs.Limits.{longestTimeout, mostDueSteps, mostFrames}
+use Rattle.motor.specs.Commands.{commandRow}
 use Rattle.motor.specs.Calls.{isIdle, startSaid, stepSaid}
 use Rattle.motor.specs.Lone.{Lone, LoneAnswered, loneNew, loneStart, loneStep, hears}
 
@@ -71,34 +71,10 @@ abbrev pub count : (Lone → LoneEvent → Bool) → Lone → List LoneEvent →
 count test l [] = 0
 count test l (e ∷ es) = cond (isIdle (l .state .operation .phase)) 0 (once (test l e) + count test (after l e) es)
 
--- ---- the most frames of each operation: 4 for a request to the candidates, 1 where nothing is retried
+-- ---- the most frames of each operation
 
 abbrev pub limitOf : Command → ℕ
-limitOf (command.Ping timeout) = 4
-limitOf (command.PingWithHostId host timeout) = 1
-limitOf (command.SetMode m) = 4
-limitOf (command.EnsureControlMode m timeout) = 32
-limitOf command.SetZeroPosition = 8
-limitOf command.SaveParameters = 4
-limitOf (command.GetProtocolFlag timeout) = 4
-limitOf (command.SetProtocol protocol timeout) = 4
-limitOf (command.SetDeviceId new) = 5
-limitOf command.Enable = 4
-limitOf command.Disable = 4
-limitOf command.ClearError = 4
-limitOf (command.SetActiveReport on) = 1
-limitOf (command.SendCmdMit p v kp kd t) = 1
-limitOf (command.SetVelocityTarget v) = 4
-limitOf (command.GetControlMode timeout) = 4
-limitOf (command.ControlledStop timeout) = 12
-limitOf (command.WriteParameter id v) = 4
-limitOf (command.SendCmdPosVelCsp p v) = 16
-limitOf (command.SendCmdPosVelPp p v a) = 20
-limitOf (command.RequestParameter id) = 1
-limitOf (command.GetParameter id timeout) = 4
-limitOf (command.GetParameterWithHostId id host timeout) = 1
-limitOf (command.GetParameterF32 id timeout) = 4
-limitOf (command.GetParameterI8 id timeout) = 4
+limitOf c = commandRow c .most
 
 -- ---- due times
 

@@ -35,6 +35,7 @@ use Rattle.motor.specs.declared.engine.node.Wait.{Wait}
 use Rattle.motor.specs.declared.engine.node.Wait.the-variants as wait
 use Rattle.motor.specs.declared.engine.reading.Found.{Found}
 use Rattle.motor.specs.declared.engine.reading.Found.the-variants as found
+use Rattle.motor.specs.Commands.{Argument, noArgument, namedHost, newDeviceId, newProtocol, writtenValue, commandRow}
 use Rattle.motor.specs.Limits.{longestTimeout, latestTime}
 use Rattle.motor.specs.Numbers.{firstOf}
 use Rattle.motor.specs.Receive.{isLate}
@@ -82,31 +83,7 @@ isIdle (phase.Waiting w) = false
 
 -- the timeout that a call gives, 0 where it gives none
 abbrev pub timeoutOf : Command → ℕ
-timeoutOf (command.Ping timeout) = timeout
-timeoutOf (command.PingWithHostId host timeout) = timeout
-timeoutOf (command.SetMode m) = 0
-timeoutOf (command.EnsureControlMode m timeout) = timeout
-timeoutOf command.SetZeroPosition = 0
-timeoutOf command.SaveParameters = 0
-timeoutOf (command.GetProtocolFlag timeout) = timeout
-timeoutOf (command.SetProtocol protocol timeout) = timeout
-timeoutOf (command.SetDeviceId new) = 0
-timeoutOf command.Enable = 0
-timeoutOf command.Disable = 0
-timeoutOf command.ClearError = 0
-timeoutOf (command.SetActiveReport on) = 0
-timeoutOf (command.SendCmdMit p v kp kd t) = 0
-timeoutOf (command.SetVelocityTarget v) = 0
-timeoutOf (command.GetControlMode timeout) = timeout
-timeoutOf (command.ControlledStop timeout) = timeout
-timeoutOf (command.WriteParameter id v) = 0
-timeoutOf (command.SendCmdPosVelCsp p v) = 0
-timeoutOf (command.SendCmdPosVelPp p v a) = 0
-timeoutOf (command.RequestParameter id) = 0
-timeoutOf (command.GetParameter id timeout) = timeout
-timeoutOf (command.GetParameterWithHostId id host timeout) = timeout
-timeoutOf (command.GetParameterF32 id timeout) = timeout
-timeoutOf (command.GetParameterI8 id timeout) = timeout
+timeoutOf c = commandRow c .timeout
 
 -- 10 and 11: what the encoder says of a value
 abbrev pub encodes : EncodedValue → Checked
@@ -121,33 +98,17 @@ hostChecked host = firstOf ((ltb 255 host, refusal.HostIdOutOfRange) ∷ [])
 abbrev pub newIdChecked : ℕ → Checked
 newIdChecked new = firstOf ((eqb new 0, refusal.NewDeviceIdZero) ∷ [])
 
--- 2, 19, 12, 10, 11: no call has more than one of the first three, nor one of them beside the last two
+-- what an argument is refused by
+abbrev pub tested : Argument → Checked
+tested noArgument = checked.Passed
+tested (namedHost id) = hostChecked id
+tested (newDeviceId id) = newIdChecked id
+tested (newProtocol n) = validateProtocolCmd n
+tested (writtenValue id v) = encodes (encodeParameterValue id v)
+
+-- 2, 19, 12, 10, 11: no call has more than one argument that is tested
 abbrev pub arguedOf : Command → Checked
-arguedOf (command.Ping timeout) = checked.Passed
-arguedOf (command.PingWithHostId host timeout) = hostChecked host
-arguedOf (command.SetMode m) = checked.Passed
-arguedOf (command.EnsureControlMode m timeout) = checked.Passed
-arguedOf command.SetZeroPosition = checked.Passed
-arguedOf command.SaveParameters = checked.Passed
-arguedOf (command.GetProtocolFlag timeout) = checked.Passed
-arguedOf (command.SetProtocol protocol timeout) = validateProtocolCmd protocol
-arguedOf (command.SetDeviceId new) = newIdChecked new
-arguedOf command.Enable = checked.Passed
-arguedOf command.Disable = checked.Passed
-arguedOf command.ClearError = checked.Passed
-arguedOf (command.SetActiveReport on) = checked.Passed
-arguedOf (command.SendCmdMit p v kp kd t) = checked.Passed
-arguedOf (command.SetVelocityTarget v) = checked.Passed
-arguedOf (command.GetControlMode timeout) = checked.Passed
-arguedOf (command.ControlledStop timeout) = checked.Passed
-arguedOf (command.WriteParameter id v) = encodes (encodeParameterValue id v)
-arguedOf (command.SendCmdPosVelCsp p v) = checked.Passed
-arguedOf (command.SendCmdPosVelPp p v a) = checked.Passed
-arguedOf (command.RequestParameter id) = checked.Passed
-arguedOf (command.GetParameter id timeout) = checked.Passed
-arguedOf (command.GetParameterWithHostId id host timeout) = hostChecked host
-arguedOf (command.GetParameterF32 id timeout) = checked.Passed
-arguedOf (command.GetParameterI8 id timeout) = checked.Passed
+arguedOf c = tested (commandRow c .argument)
 
 -- the first that applies, else what comes after
 abbrev pub orElse : Checked → Checked → Checked

@@ -4,6 +4,7 @@ pub mod Readings
 pub mod Numbers
 pub mod Receive
 pub mod Edits
+pub mod Commands
 pub mod Calls
 pub mod Lone
 pub mod Motors

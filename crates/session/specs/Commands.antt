@@ -2,7 +2,7 @@
 -- only.
 use Prim.Native.Nat.{ℕ, _+_, _/_, _%_, _^_}
 use mathlib.Core.Bool.{Bool, true, false, cond}
-use mathlib.Core.List.{List}
+use mathlib.Core.List.{List, [], _∷_}
 use lib.Dec.{eqb, leb}
 use lib.ListN.{length, getD}
 use mir.Syntax.{w8}
@@ -67,39 +67,46 @@ abbrev pub orCommand : Bool → Command → Command → Command
 orCommand true a b = a
 orCommand false a b = b
 
--- from write_parameter on
-unfoldable pub parameterOf : ℕ → List ℕ → Command
-parameterOf k v =
-    orCommand (eqb k 17) (command.WriteParameter (half v 3) (typedValue (getD v 4 0) (getD v 5 0)))
-    (orCommand (eqb k 18) (command.SendCmdPosVelCsp (word v 3) (word v 4))
-    (orCommand (eqb k 19) (command.SendCmdPosVelPp (word v 3) (word v 4) (word v 5))
-    (orCommand (eqb k 20) (command.RequestParameter (half v 3))
-    (orCommand (eqb k 21) (command.GetParameter (half v 3) (getD v 4 0))
-    (orCommand (eqb k 22) (command.GetParameterWithHostId (half v 3) (half v 4) (getD v 5 0))
-    (orCommand (eqb k 23) (command.GetParameterF32 (half v 3) (getD v 4 0)) (command.GetParameterI8 (half v 3) (getD v 4 0))))))))
+abbrev pub motionOf : List ℕ → Command
+motionOf v = command.SendCmdMit (word v 3) (word v 4) (word v 5) (word v 6) (word v 7)
 
--- from enable on
-unfoldable pub driven : ℕ → List ℕ → Command
-driven k v =
-    orCommand (eqb k 9) command.Enable
-    (orCommand (eqb k 10) command.Disable
-    (orCommand (eqb k 11) command.ClearError
-    (orCommand (eqb k 12) (command.SetActiveReport (eqb (getD v 3 0) 1))
-    (orCommand (eqb k 13) (command.SendCmdMit (word v 3) (word v 4) (word v 5) (word v 6) (word v 7))
-    (orCommand (eqb k 14) (command.SetVelocityTarget (word v 3))
-    (orCommand (eqb k 15) (command.GetControlMode (getD v 3 0)) (orCommand (eqb k 16) (command.ControlledStop (getD v 3 0)) (parameterOf k v))))))))
+-- each row but ping's, which is row 0
+abbrev pub commandRows : List ℕ → List (ℕ × Command)
+commandRows v =
+    (1, command.PingWithHostId (half v 3) (getD v 4 0))
+    ∷ (2, command.SetMode (modeOf (getD v 3 0)))
+    ∷ (3, command.EnsureControlMode (modeOf (getD v 3 0)) (getD v 4 0))
+    ∷ (4, command.SetZeroPosition)
+    ∷ (5, command.SaveParameters)
+    ∷ (6, command.GetProtocolFlag (getD v 3 0))
+    ∷ (7, command.SetProtocol (byte v 3) (getD v 4 0))
+    ∷ (8, command.SetDeviceId (byte v 3))
+    ∷ (9, command.Enable)
+    ∷ (10, command.Disable)
+    ∷ (11, command.ClearError)
+    ∷ (12, command.SetActiveReport (eqb (getD v 3 0) 1))
+    ∷ (13, motionOf v)
+    ∷ (14, command.SetVelocityTarget (word v 3))
+    ∷ (15, command.GetControlMode (getD v 3 0))
+    ∷ (16, command.ControlledStop (getD v 3 0))
+    ∷ (17, command.WriteParameter (half v 3) (typedValue (getD v 4 0) (getD v 5 0)))
+    ∷ (18, command.SendCmdPosVelCsp (word v 3) (word v 4))
+    ∷ (19, command.SendCmdPosVelPp (word v 3) (word v 4) (word v 5))
+    ∷ (20, command.RequestParameter (half v 3))
+    ∷ (21, command.GetParameter (half v 3) (getD v 4 0))
+    ∷ (22, command.GetParameterWithHostId (half v 3) (half v 4) (getD v 5 0))
+    ∷ (23, command.GetParameterF32 (half v 3) (getD v 4 0))
+    ∷ (24, command.GetParameterI8 (half v 3) (getD v 4 0))
+    ∷ []
+
+-- the command of this row, and c where no row has the number
+abbrev pub commandAt : ℕ → List (ℕ × Command) → Command → Command
+commandAt k [] c = c
+commandAt k (row ∷ rows) c = orCommand (eqb k (row .0)) (row .1) (commandAt k rows c)
 
 -- the command of row k
 unfoldable pub commandOf : ℕ → List ℕ → Command
-commandOf k v =
-    orCommand (eqb k 0) (command.Ping (getD v 3 0))
-    (orCommand (eqb k 1) (command.PingWithHostId (half v 3) (getD v 4 0))
-    (orCommand (eqb k 2) (command.SetMode (modeOf (getD v 3 0)))
-    (orCommand (eqb k 3) (command.EnsureControlMode (modeOf (getD v 3 0)) (getD v 4 0))
-    (orCommand (eqb k 4) command.SetZeroPosition
-    (orCommand (eqb k 5) command.SaveParameters
-    (orCommand (eqb k 6) (command.GetProtocolFlag (getD v 3 0))
-    (orCommand (eqb k 7) (command.SetProtocol (byte v 3) (getD v 4 0)) (orCommand (eqb k 8) (command.SetDeviceId (byte v 3)) (driven k v)))))))))
+commandOf k v = commandAt k (commandRows v) (command.Ping (getD v 3 0))
 
 abbrev pub orEvent : Bool → Event → Event → Event
 orEvent true a b = a

@@ -68,12 +68,11 @@ fn too_wide(shape: &[u8], v: [u64; 8]) -> usize
     kind + 3
 }
 
-// The command of row k.
+// The command of row k: ping has row 0.
 fn command_of(k: usize, v: [u64; 8]) -> Command
     ensures { λ r. ⌜ r ≡ spec.commandOf k v ⌝ }
 {
     match k {
-        0 => Command::Ping(v[3]),
         1 => Command::PingWithHostId(low16(v[3]), v[4]),
         2 => Command::SetMode(mode_of(v[3])),
         3 => Command::EnsureControlMode(mode_of(v[3]), v[4]),
@@ -82,38 +81,14 @@ fn command_of(k: usize, v: [u64; 8]) -> Command
         6 => Command::GetProtocolFlag(v[3]),
         7 => Command::SetProtocol(low8(v[3]), v[4]),
         8 => Command::SetDeviceId(low8(v[3])),
-        _ => driven(k, v),
-    }
-}
-
-// From enable on.
-fn driven(k: usize, v: [u64; 8]) -> Command
-    ensures { λ r. ⌜ r ≡ spec.driven k v ⌝ }
-{
-    match k {
         9 => Command::Enable,
         10 => Command::Disable,
         11 => Command::ClearError,
         12 => Command::SetActiveReport(v[3] == 1),
-        13 => Command::SendCmdMit(
-            low_word(v[3]),
-            low_word(v[4]),
-            low_word(v[5]),
-            low_word(v[6]),
-            low_word(v[7]),
-        ),
+        13 => motion_of(v),
         14 => Command::SetVelocityTarget(low_word(v[3])),
         15 => Command::GetControlMode(v[3]),
         16 => Command::ControlledStop(v[3]),
-        _ => parameter(k, v),
-    }
-}
-
-// From write_parameter on.
-fn parameter(k: usize, v: [u64; 8]) -> Command
-    ensures { λ r. ⌜ r ≡ spec.parameterOf k v ⌝ }
-{
-    match k {
         17 => Command::WriteParameter(low16(v[3]), typed_value(v[4], v[5])),
         18 => Command::SendCmdPosVelCsp(low_word(v[3]), low_word(v[4])),
         19 => Command::SendCmdPosVelPp(low_word(v[3]), low_word(v[4]), low_word(v[5])),
@@ -121,8 +96,22 @@ fn parameter(k: usize, v: [u64; 8]) -> Command
         21 => Command::GetParameter(low16(v[3]), v[4]),
         22 => Command::GetParameterWithHostId(low16(v[3]), low16(v[4]), v[5]),
         23 => Command::GetParameterF32(low16(v[3]), v[4]),
-        _ => Command::GetParameterI8(low16(v[3]), v[4]),
+        24 => Command::GetParameterI8(low16(v[3]), v[4]),
+        _ => Command::Ping(v[3]),
     }
+}
+
+// A motion command.
+fn motion_of(v: [u64; 8]) -> Command
+    ensures { λ r. ⌜ r ≡ spec.motionOf v ⌝ }
+{
+    Command::SendCmdMit(
+        low_word(v[3]),
+        low_word(v[4]),
+        low_word(v[5]),
+        low_word(v[6]),
+        low_word(v[7]),
+    )
 }
 
 // A mode by its place among the names.

@@ -1,7 +1,7 @@
 -- A start's numbers are those of its tests: once these pass, no operation begins with a refusal. Assumes nothing.
 use Prim.Native.Nat.{ℕ}
 use mathlib.Core.Path.{_≡_, refl, ap}
-use mathlib.Core.Bool.{Bool, true, false, true≢false, cond, not}
+use mathlib.Core.Bool.{Bool, true, false, cond, not}
 use mathlib.Core.List.{List, [], _∷_}
 use lib.Dec.{eqb, ltb}
 use Rattle.codec.specs.declared.bus.CanFrame.{CanFrame}
@@ -18,14 +18,11 @@ use Rattle.codec.specs.Kinds.{among, kindNumber, parameterInfo}
 use Rattle.codec.specs.Refusals.{numberOf}
 use Rattle.codec.specs.Values.{kindIn, rawOf, encodedBy, encodeParameterValue}
 use Rattle.motor.specs.declared.engine.command.Command.{Command}
-use Rattle.motor.specs.declared.engine.command.Command.the-variants as command
 use Rattle.motor.specs.declared.engine.command.Said.{Said}
 use Rattle.motor.specs.declared.engine.command.Said.the-variants as said
 use Rattle.motor.specs.declared.engine.node.Acked.{Acked}
-use Rattle.motor.specs.declared.engine.node.Acked.the-variants as acked
 use Rattle.motor.specs.declared.engine.node.Node.{Node}
 use Rattle.motor.specs.declared.engine.node.Node.the-variants as node
-use Rattle.motor.specs.declared.engine.node.Request.the-variants as request
 use Rattle.motor.specs.declared.engine.operation.Move.{Move}
 use Rattle.motor.specs.declared.engine.operation.Phase.{Phase}
 use Rattle.motor.specs.declared.engine.operation.Sight.{Sight}
@@ -34,12 +31,12 @@ use Rattle.motor.specs.declared.engine.run.AfterNode.the-variants as after
 use Rattle.motor.specs.Limits.{longestTimeout}
 use Rattle.motor.specs.engine.Operations.{beginsWith, ackedOf}
 use Rattle.motor.specs.engine.Run.{afterNode, sendThen, write, entered, begunBy}
-use Rattle.motor.specs.engine.Script.{windowOf, sendWithResponseAck}
-use Rattle.motor.specs.Calls.{encodes, isIdle, timeoutOf, arguedOf, orElse, startAdmitted, startSaid, sightOf}
+use Rattle.motor.specs.Commands.{Argument, noArgument, namedHost, newDeviceId, newProtocol, writtenValue, commandRow}
+use Rattle.motor.specs.Calls.{encodes, tested, isIdle, timeoutOf, arguedOf, orElse, startAdmitted, startSaid, sightOf}
 use Rattle.motor.specs.Lone.{Lone, loneStart, loneStartBy}
 use Rattle.motor.specs.Numbers.{firstOf}
 use Rattle.motor.specs.Receive.{isLate}
-use Rattle.motor.proofs.GoodNodes.{Good, begins-good}
+use Rattle.motor.proofs.Commands.{Opens, opens}
 use Rattle.motor.proofs.Stays.{argued-passed}
 use Rattle.station.specs.Calls.{says}
 use Rattle.station.specs.Station.{movesTo}
@@ -88,30 +85,18 @@ written-number (info.Listed kind) v = go (eqb (kindNumber kind) (kindNumber (kin
     go true = refl
     go false = refl
 
--- a node that fails; entered, another one whose write the encoder takes refuses nothing
-abbrev isFail : Node → Bool
-isFail (node.Finish r) = false
-isFail node.Report = false
-isFail node.ClearFault = false
-isFail (node.Fail r) = true
-isFail (node.Pause d k) = false
-isFail (node.Last r) = false
-isFail (node.Write id v k) = false
-isFail (node.Await w window whom) = false
-isFail (node.Motion p v kp kd t r) = false
-isFail (node.Rename new) = false
-
-entered-goes : (s : Sight) (now : ℕ) (n : Node) → isFail n ≡ false → Good n → Goes ((entered s now n) .said)
-entered-goes s now (node.Finish r) e g = tt
-entered-goes s now node.Report e g = tt
-entered-goes s now node.ClearFault e g = tt
-entered-goes s now (node.Fail r) e g = absurd (true≢false e)
-entered-goes s now (node.Pause d k) e g = tt
-entered-goes s now (node.Last r) e g = tt
-entered-goes s now (node.Write id v k) e g = written-goes s now id k (encodeParameterValue id v) g
-entered-goes s now (node.Await w window whom) e g = tt
-entered-goes s now (node.Motion p v kp kd t r) e g = tt
-entered-goes s now (node.Rename new) e g = tt
+-- entered, a node with which an operation may begin refuses nothing
+entered-goes : (s : Sight) (now : ℕ) (n : Node) → Opens n → Goes ((entered s now n) .said)
+entered-goes s now (node.Finish r) o = tt
+entered-goes s now node.Report o = tt
+entered-goes s now node.ClearFault o = tt
+entered-goes s now (node.Fail r) o = absurd o
+entered-goes s now (node.Pause d k) o = tt
+entered-goes s now (node.Last r) o = tt
+entered-goes s now (node.Write id v k) o = written-goes s now id k (encodeParameterValue id v) o
+entered-goes s now (node.Await w window whom) o = tt
+entered-goes s now (node.Motion p v kp kd t r) o = tt
+entered-goes s now (node.Rename new) o = tt
 
 -- 2, 19 and 12
 one : (b : Bool) (r : Refusal) → among (numberOf r) startNumbers ≡ true → among (checkedNumber (firstOf ((b, r) ∷ []))) startNumbers ≡ true
@@ -119,43 +104,17 @@ unfolding among
 one true r h = h
 one false r h = refl
 
--- each command: what its tests refuse by, and that its operation doesn't begin with a failure
-begun : (c : Command) → (among (checkedNumber (arguedOf c)) startNumbers ≡ true) × (isFail (beginsWith c) ≡ false)
+argued-number : (a : Argument) → among (checkedNumber (tested a)) startNumbers ≡ true
 unfolding among
-begun (command.Ping timeout) = (refl, refl)
-begun (command.PingWithHostId host timeout) = (one (ltb 255 host) refusal.HostIdOutOfRange refl, refl)
-begun (command.SetMode m) = (refl, refl)
-begun (command.EnsureControlMode m timeout) = (refl, refl)
-begun command.SetZeroPosition = (refl, refl)
-begun command.SaveParameters = (refl, refl)
-begun (command.GetProtocolFlag timeout) = (refl, refl)
-begun (command.SetProtocol protocol timeout) = (one (ltb 2 protocol) refusal.UnknownProtocol refl, go (eqb timeout 0))
-  where
-    go : (b : Bool)
-        → isFail (cond b (node.Last (request.SetProtocol protocol)) (sendWithResponseAck (request.SetProtocol protocol) (windowOf timeout 120) acked.Done)) ≡ false
-    go true = refl
-    go false = refl
-begun (command.SetDeviceId new) = (one (eqb new 0) refusal.NewDeviceIdZero refl, refl)
-begun command.Enable = (refl, refl)
-begun command.Disable = (refl, refl)
-begun command.ClearError = (refl, refl)
-begun (command.SetActiveReport on) = (refl, refl)
-begun (command.SendCmdMit p v kp kd t) = (refl, refl)
-begun (command.SetVelocityTarget v) = (refl, refl)
-begun (command.GetControlMode timeout) = (refl, refl)
-begun (command.ControlledStop timeout) = (refl, refl)
-begun (command.WriteParameter id v) = (written-number (parameterInfo id) v, refl)
-begun (command.SendCmdPosVelCsp p v) = (refl, refl)
-begun (command.SendCmdPosVelPp p v a) = (refl, refl)
-begun (command.RequestParameter id) = (refl, refl)
-begun (command.GetParameter id timeout) = (refl, refl)
-begun (command.GetParameterWithHostId id host timeout) = (one (ltb 255 host) refusal.HostIdOutOfRange refl, refl)
-begun (command.GetParameterF32 id timeout) = (refl, refl)
-begun (command.GetParameterI8 id timeout) = (refl, refl)
+argued-number noArgument = refl
+argued-number (namedHost id) = one (ltb 255 id) refusal.HostIdOutOfRange refl
+argued-number (newDeviceId id) = one (eqb id 0) refusal.NewDeviceIdZero refl
+argued-number (newProtocol n) = one (ltb 2 n) refusal.UnknownProtocol refl
+argued-number (writtenValue id v) = written-number (parameterInfo id) v
 
 pub start-number : (h : Lone) (c : Command) (now : ℕ) → among (number ((movesTo (loneStart h c now)) .0)) startNumbers ≡ true
 unfolding movesTo among
-start-number h c now = go (startSaid clock p c now) refl (tested (startAdmitted clock p c now) (of-first (λ n. among n startNumbers) tests refl))
+start-number h c now = go (startSaid clock p c now) refl (after-tests (startAdmitted clock p c now) (of-first (λ n. among n startNumbers) tests refl))
   where
     clock : ℕ
     clock = h .state .clock
@@ -166,9 +125,9 @@ start-number h c now = go (startSaid clock p c now) refl (tested (startAdmitted 
     tests : List (Bool × Refusal)
     tests = (isLate clock now, refusal.TimeOutOfRange) ∷ (not (isIdle p), refusal.OperationRunning) ∷ (ltb longestTimeout (timeoutOf c), refusal.TimeoutTooLong) ∷ []
 
-    tested : (a : Checked) → among (checkedNumber a) startNumbers ≡ true → among (checkedNumber (orElse a (arguedOf c))) startNumbers ≡ true
-    tested checked.Passed e = begun c .0
-    tested (checked.Refused r) e = e
+    after-tests : (a : Checked) → among (checkedNumber a) startNumbers ≡ true → among (checkedNumber (orElse a (arguedOf c))) startNumbers ≡ true
+    after-tests checked.Passed e = argued-number (commandRow c .argument)
+    after-tests (checked.Refused r) e = e
 
     go : (k : Checked) → startSaid clock p c now ≡ k → among (checkedNumber k) startNumbers ≡ true
         → among (number ((movesTo (loneStartBy k h c now)) .0)) startNumbers ≡ true
@@ -176,6 +135,6 @@ start-number h c now = go (startSaid clock p c now) refl (tested (startAdmitted 
         let v = begunBy (sightOf (h .state)) now c in
         ap (λ (n : ℕ). among n startNumbers)
         (goes-number (v .said) (v .frame) (v .result)
-        (entered-goes (sightOf (h .state)) now (beginsWith c) (begun c .1)
-        (begins-good c (argued-passed (startAdmitted clock p c now) (arguedOf c) q))))
+        (entered-goes (sightOf (h .state)) now (beginsWith c)
+        (opens c (argued-passed (startAdmitted clock p c now) (arguedOf c) q))))
     go (checked.Refused r) q e = e

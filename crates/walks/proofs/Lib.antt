@@ -9,3 +9,4 @@ pub mod LookWalk
 pub mod LineWalk
 pub mod LoopWalk
 pub mod BeatWalk
+pub mod LastArm

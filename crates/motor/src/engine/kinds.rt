@@ -1,8 +1,16 @@
-// A reading as a value of one kind.
+// A reading as a value of one kind, and the reads that ask for a kind.
+use crate::engine::command::Outcome;
+use crate::engine::node::Node;
+use crate::engine::script::failed_by_kind;
+use codec::error::Refusal;
 use codec::protocol::ParameterValue;
+use codec::registers::ControlMode;
+use codec::registers::ModeRead;
 use codec::word::Word;
 ghost use mathlib.Core.Path.{_≡_};
-ghost use Rattle.motor.specs.engine.Script.{signedIn, floatIn};
+ghost use Rattle.motor.specs.declared.engine.command.Outcome.the-variants as outcome;
+ghost use Rattle.motor.specs.declared.engine.node.Node.the-variants as node;
+ghost use Rattle.motor.specs.engine.Script.{signedIn, floatIn, asFlag, asSigned, asFloat, modeIn, asMode};
 
 // The signed number of a reading, or that it is of another kind.
 pub enum SignedIn {
@@ -21,10 +29,7 @@ pub(super) fn signed_in(reading: ParameterValue) -> SignedIn
 {
     match reading {
         ParameterValue::I8(v) => SignedIn::Signed(v),
-        ParameterValue::U8(_) => SignedIn::Another,
-        ParameterValue::U16(_) => SignedIn::Another,
-        ParameterValue::U32(_) => SignedIn::Another,
-        ParameterValue::F32(_) => SignedIn::Another,
+        _ => SignedIn::Another,
     }
 }
 
@@ -32,10 +37,57 @@ pub(super) fn float_in(reading: ParameterValue) -> FloatIn
     ensures { λ r. ⌜ r ≡ floatIn reading ⌝ }
 {
     match reading {
-        ParameterValue::I8(_) => FloatIn::Another,
-        ParameterValue::U8(_) => FloatIn::Another,
-        ParameterValue::U16(_) => FloatIn::Another,
-        ParameterValue::U32(_) => FloatIn::Another,
         ParameterValue::F32(word) => FloatIn::Float(word),
+        _ => FloatIn::Another,
+    }
+}
+
+// ---- a reading of a kind, or 20
+
+pub(super) fn as_flag(reading: ParameterValue) -> Node
+    ensures { λ r. ⌜ r ≡ asFlag reading ⌝ }
+{
+    match reading {
+        ParameterValue::U8(flag) => Node::Finish(Outcome::Flag(flag)),
+        _ => failed_by_kind(),
+    }
+}
+
+pub(super) fn as_f32(reading: ParameterValue) -> Node
+    ensures { λ r. ⌜ r ≡ asFloat (floatIn reading) (λ w. node.Finish (outcome.F32 w)) ⌝ }
+{
+    let FloatIn::Float(word) = float_in(reading) else {
+        return failed_by_kind();
+    };
+    Node::Finish(Outcome::F32(word))
+}
+
+pub(super) fn as_i8(reading: ParameterValue) -> Node
+    ensures { λ r. ⌜ r ≡ asSigned (signedIn reading) (λ n. node.Finish (outcome.I8 n)) ⌝ }
+{
+    let SignedIn::Signed(number) = signed_in(reading) else {
+        return failed_by_kind();
+    };
+    Node::Finish(Outcome::I8(number))
+}
+
+// ---- get_control_mode
+
+// The run mode of a reading: 20 where it is of another kind, 17 where it is no mode.
+pub(super) fn mode_in(reading: ParameterValue) -> ModeRead
+    ensures { λ r. ⌜ r ≡ modeIn (signedIn reading) ⌝ }
+{
+    let SignedIn::Signed(number) = signed_in(reading) else {
+        return ModeRead::Refused(Refusal::ReadingOfAnotherKind);
+    };
+    ControlMode::from_raw(number)
+}
+
+pub(super) fn as_mode(reading: ParameterValue) -> Node
+    ensures { λ r. ⌜ r ≡ asMode (signedIn reading) (λ m. node.Finish (outcome.Mode m)) ⌝ }
+{
+    match mode_in(reading) {
+        ModeRead::Mode(mode) => Node::Finish(Outcome::Mode(mode)),
+        ModeRead::Refused(refusal) => Node::Fail(refusal),
     }
 }

@@ -9,6 +9,10 @@ use crate::engine::ensure::ensure_lost;
 use crate::engine::ensure::first_read;
 use crate::engine::ensure::mode_off;
 use crate::engine::ensure::try_again;
+use crate::engine::kinds::as_f32;
+use crate::engine::kinds::as_flag;
+use crate::engine::kinds::as_i8;
+use crate::engine::kinds::as_mode;
 use crate::engine::node::Acked;
 use crate::engine::node::Got;
 use crate::engine::node::Node;
@@ -31,10 +35,6 @@ use crate::engine::script::send_with_status_ack;
 use crate::engine::script::set_mode;
 use crate::engine::script::window_of;
 use crate::engine::script::write_float;
-use crate::engine::stop::as_f32;
-use crate::engine::stop::as_flag;
-use crate::engine::stop::as_i8;
-use crate::engine::stop::as_mode;
 use crate::engine::stop::stop_csp;
 use crate::engine::stop::stop_mit;
 use crate::engine::stop::stop_mode;
@@ -181,17 +181,8 @@ fn not_acked(then: Acked) -> Node
     ensures { λ r. ⌜ r ≡ notAcked then ⌝ }
 {
     match then {
-        Acked::Done => failed_by_silence(),
-        Acked::FaultCleared => failed_by_silence(),
-        Acked::ZeroState => failed_by_silence(),
-        Acked::Stopped(_) => failed_by_silence(),
-        Acked::CspEnable(_, _) => failed_by_silence(),
-        Acked::CspLimit(_, _) => failed_by_silence(),
-        Acked::PpEnable(_, _, _) => failed_by_silence(),
-        Acked::PpVelocity(_, _, _) => failed_by_silence(),
-        Acked::PpAcceleration(_, _) => failed_by_silence(),
-        Acked::Target(_) => failed_by_silence(),
         Acked::Ensure(stage, aim) => ensure_lost(stage, aim),
+        _ => failed_by_silence(),
     }
 }
 
@@ -218,16 +209,9 @@ fn no_value(then: Got) -> Node
     ensures { λ r. ⌜ r ≡ noValue then ⌝ }
 {
     match then {
-        Got::Value => failed_by_silence(),
-        Got::Flag => failed_by_silence(),
-        Got::F32 => failed_by_silence(),
-        Got::I8 => failed_by_silence(),
-        Got::Mode => failed_by_silence(),
-        Got::StopMode(_) => failed_by_silence(),
-        Got::StopCsp => failed_by_silence(),
-        Got::StopMit => failed_by_silence(),
         Got::EnsureFirst(aim) => mode_off(aim),
         Got::EnsureBack(aim) => try_again(aim),
+        _ => failed_by_silence(),
     }
 }
 

@@ -64,15 +64,8 @@ fn after_node(node: Node) -> AfterNode
 {
     match node {
         Node::Finish(outcome) => AfterNode::Ends(outcome),
-        Node::Report => AfterNode::Goes,
-        Node::ClearFault => AfterNode::Goes,
-        Node::Fail(_) => AfterNode::Goes,
         Node::Pause(time, then) => AfterNode::Pauses(time, then),
-        Node::Last(_) => AfterNode::Goes,
-        Node::Write(_, _, _) => AfterNode::Goes,
-        Node::Await(_, _, _) => AfterNode::Goes,
-        Node::Motion(_, _, _, _, _, _) => AfterNode::Goes,
-        Node::Rename(_) => AfterNode::Goes,
+        _ => AfterNode::Goes,
     }
 }
 
@@ -255,14 +248,6 @@ fn advanced(sight: Sight, now: u64, operation: Operation, found: Found) -> Move
     }
 }
 
-// What a start does.
-fn begun(sight: Sight, now: u64, command: Command) -> Move
-    requires { ⌜ now ≤ latestTime ⌝ }
-    ensures { λ r. ⌜ r ≡ begunBy sight now command ⌝ }
-{
-    entered(sight, now, begins_with(command))
-}
-
 // ---- in time: no move is made after 10^15 (7)
 
 // 7, as a move.
@@ -279,7 +264,7 @@ pub fn begin_at(sight: Sight, now: u64, command: Command) -> Move
     if now > LATEST {
         return too_late();
     }
-    begun(sight, now, command)
+    entered(sight, now, begins_with(command))
 }
 
 // A step's move.

@@ -1,9 +1,8 @@
-// Reads that ask for a kind, and controlled_stop.
+// controlled_stop: the run mode is read, and what holds the motor in that mode is sent.
 use crate::engine::command::Outcome;
 use crate::engine::kinds::FloatIn;
-use crate::engine::kinds::SignedIn;
 use crate::engine::kinds::float_in;
-use crate::engine::kinds::signed_in;
+use crate::engine::kinds::mode_in;
 use crate::engine::node::Acked;
 use crate::engine::node::Got;
 use crate::engine::node::Node;
@@ -11,7 +10,6 @@ use crate::engine::operation::Sight;
 use crate::engine::script::failed_by_kind;
 use crate::engine::script::get_parameter;
 use crate::engine::script::write_float;
-use codec::error::Refusal;
 use codec::model::limits_of;
 use codec::protocol::ParameterValue;
 use codec::registers::ControlMode;
@@ -23,65 +21,8 @@ use codec::word::word_of;
 ghost use mathlib.Core.Path.{_≡_};
 ghost use Rattle.codec.specs.declared.protocol.ParameterValue.the-variants as value;
 ghost use Rattle.codec.specs.declared.registers.ControlMode.the-variants as mode;
-ghost use Rattle.motor.specs.declared.engine.command.Outcome.the-variants as outcome;
 ghost use Rattle.motor.specs.declared.engine.node.Acked.the-variants as acked;
-ghost use Rattle.motor.specs.declared.engine.node.Node.the-variants as node;
-ghost use Rattle.motor.specs.engine.Script.{signedIn, floatIn, asFlag, asSigned, asFloat, modeIn, asMode, put, stopGain, stopIn, stopAt};
-
-// ---- a reading of a kind, or 20
-
-pub(super) fn as_flag(reading: ParameterValue) -> Node
-    ensures { λ r. ⌜ r ≡ asFlag reading ⌝ }
-{
-    match reading {
-        ParameterValue::I8(_) => failed_by_kind(),
-        ParameterValue::U8(flag) => Node::Finish(Outcome::Flag(flag)),
-        ParameterValue::U16(_) => failed_by_kind(),
-        ParameterValue::U32(_) => failed_by_kind(),
-        ParameterValue::F32(_) => failed_by_kind(),
-    }
-}
-
-pub(super) fn as_f32(reading: ParameterValue) -> Node
-    ensures { λ r. ⌜ r ≡ asFloat (floatIn reading) (λ w. node.Finish (outcome.F32 w)) ⌝ }
-{
-    let FloatIn::Float(word) = float_in(reading) else {
-        return failed_by_kind();
-    };
-    Node::Finish(Outcome::F32(word))
-}
-
-pub(super) fn as_i8(reading: ParameterValue) -> Node
-    ensures { λ r. ⌜ r ≡ asSigned (signedIn reading) (λ n. node.Finish (outcome.I8 n)) ⌝ }
-{
-    let SignedIn::Signed(number) = signed_in(reading) else {
-        return failed_by_kind();
-    };
-    Node::Finish(Outcome::I8(number))
-}
-
-// ---- get_control_mode
-
-// The run mode of a reading: 20 where it is of another kind, 17 where it is no mode.
-fn mode_in(reading: ParameterValue) -> ModeRead
-    ensures { λ r. ⌜ r ≡ modeIn (signedIn reading) ⌝ }
-{
-    let SignedIn::Signed(number) = signed_in(reading) else {
-        return ModeRead::Refused(Refusal::ReadingOfAnotherKind);
-    };
-    ControlMode::from_raw(number)
-}
-
-pub(super) fn as_mode(reading: ParameterValue) -> Node
-    ensures { λ r. ⌜ r ≡ asMode (signedIn reading) (λ m. node.Finish (outcome.Mode m)) ⌝ }
-{
-    match mode_in(reading) {
-        ModeRead::Mode(mode) => Node::Finish(Outcome::Mode(mode)),
-        ModeRead::Refused(refusal) => Node::Fail(refusal),
-    }
-}
-
-// ---- controlled_stop
+ghost use Rattle.motor.specs.engine.Script.{signedIn, floatIn, asFloat, asMode, put, stopGain, stopIn, stopAt};
 
 // What holds a motor in this mode.
 fn stop_in(timeout: u64, mode: ControlMode) -> Node

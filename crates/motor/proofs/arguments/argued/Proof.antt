@@ -1,48 +1,8 @@
 -- Right because five calls have an argument to be tested, and the others pass.
-use Prim.Native.Nat.{ℕ}
-use mathlib.Core.Path.{_≡_, refl}
-use mathlib.Core.List.{List, [], _∷_}
-use types.Run.{OneOf, miss}
-use denote.Enum.Declared.{tagOf}
-use Rattle.codec.specs.declared.error.Checked.the-variants as checked
-use Rattle.motor.specs.declared.engine.command.Command.{Command}
-use Rattle.motor.specs.declared.engine.command.Command.the-variants as command
-use Rattle.motor.proofs.engine.command.Command.{the-type}
-use Rattle.motor.specs.Calls.{arguedOf}
 use borrow.Author.Needs.{needs}
+use Rattle.motor.proofs.Commands.{unasked}
 use Rattle.motor.proofs.arguments.argued.Statement.{statement}
 use Rattle.motor.proofs.arguments.argued.Tie as tie
-
--- the calls that pass, by their numbers
-abbrev bare : List ℕ
-bare = 0 ∷ 2 ∷ 3 ∷ 4 ∷ 5 ∷ 6 ∷ 9 ∷ 10 ∷ 11 ∷ 12 ∷ 13 ∷ 14 ∷ 15 ∷ 16 ∷ 18 ∷ 19 ∷ 20 ∷ 21 ∷ 23 ∷ 24 ∷ []
-
-passes : (c : Command) → OneOf bare (tagOf the-type c) → arguedOf c ≡ checked.Passed
-passes (command.Ping timeout) h = refl
-passes (command.PingWithHostId host timeout) h = absurd (miss bare 1 tt h)
-passes (command.SetMode m) h = refl
-passes (command.EnsureControlMode m timeout) h = refl
-passes command.SetZeroPosition h = refl
-passes command.SaveParameters h = refl
-passes (command.GetProtocolFlag timeout) h = refl
-passes (command.SetProtocol protocol timeout) h = absurd (miss bare 7 tt h)
-passes (command.SetDeviceId new) h = absurd (miss bare 8 tt h)
-passes command.Enable h = refl
-passes command.Disable h = refl
-passes command.ClearError h = refl
-passes (command.SetActiveReport on) h = refl
-passes (command.SendCmdMit p v kp kd t) h = refl
-passes (command.SetVelocityTarget v) h = refl
-passes (command.GetControlMode timeout) h = refl
-passes (command.ControlledStop timeout) h = refl
-passes (command.WriteParameter id v) h = absurd (miss bare 17 tt h)
-passes (command.SendCmdPosVelCsp p v) h = refl
-passes (command.SendCmdPosVelPp p v a) h = refl
-passes (command.RequestParameter id) h = refl
-passes (command.GetParameter id timeout) h = refl
-passes (command.GetParameterWithHostId id host timeout) h = absurd (miss bare 22 tt h)
-passes (command.GetParameterF32 id timeout) h = refl
-passes (command.GetParameterI8 id timeout) h = refl
 
 enum-known-command : tie.Need-enum-known-command
 enum-known-command c = search needs
@@ -90,7 +50,7 @@ returns-5 : tie.Need-returns-5
 returns-5 c = rw (c .before .before .command5 .given .1) (c .host-checked2 .ensures)
 
 returns-6 : tie.Need-returns-6
-returns-6 c = rw (passes _ (c .match .keys6))
+returns-6 c = rw (unasked _ (c .match .keys6))
 
 pub argued-spec : {M : Type 1} → statement M
 argued-spec =

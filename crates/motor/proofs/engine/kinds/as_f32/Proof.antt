@@ -1,7 +1,7 @@
 -- Right because a float gives its word, and another kind is refused.
 use borrow.Author.Needs.{needs}
-use Rattle.motor.proofs.engine.stop.as_f32.Statement.{statement}
-use Rattle.motor.proofs.engine.stop.as_f32.Tie as tie
+use Rattle.motor.proofs.engine.kinds.as_f32.Statement.{statement}
+use Rattle.motor.proofs.engine.kinds.as_f32.Tie as tie
 
 float-in-requires : tie.Need-float-in-requires
 float-in-requires c κs = search needs

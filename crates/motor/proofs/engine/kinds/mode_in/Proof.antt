@@ -1,8 +1,8 @@
 -- Right because a signed reading's number is read as a mode, and another kind is refused.
 use borrow.Author.Needs.{needs}
 use Rattle.codec.proofs.TwosComplement.{back}
-use Rattle.motor.proofs.engine.stop.mode_in.Statement.{statement}
-use Rattle.motor.proofs.engine.stop.mode_in.Tie as tie
+use Rattle.motor.proofs.engine.kinds.mode_in.Statement.{statement}
+use Rattle.motor.proofs.engine.kinds.mode_in.Tie as tie
 
 signed-in-requires : tie.Need-signed-in-requires
 signed-in-requires c κs = search needs

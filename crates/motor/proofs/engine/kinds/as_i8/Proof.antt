@@ -1,8 +1,8 @@
 -- Right because a signed reading gives its number, and another kind is refused.
 use borrow.Author.Needs.{needs}
 use Rattle.codec.proofs.TwosComplement.{back}
-use Rattle.motor.proofs.engine.stop.as_i8.Statement.{statement}
-use Rattle.motor.proofs.engine.stop.as_i8.Tie as tie
+use Rattle.motor.proofs.engine.kinds.as_i8.Statement.{statement}
+use Rattle.motor.proofs.engine.kinds.as_i8.Tie as tie
 
 signed-in-requires : tie.Need-signed-in-requires
 signed-in-requires c κs = search needs

@@ -1,7 +1,7 @@
 -- Right because a mode is given, and a refusal passed on.
 use borrow.Author.Needs.{needs}
-use Rattle.motor.proofs.engine.stop.as_mode.Statement.{statement}
-use Rattle.motor.proofs.engine.stop.as_mode.Tie as tie
+use Rattle.motor.proofs.engine.kinds.as_mode.Statement.{statement}
+use Rattle.motor.proofs.engine.kinds.as_mode.Tie as tie
 
 mode-in-requires : tie.Need-mode-in-requires
 mode-in-requires c κs = search needs
