@@ -234,9 +234,10 @@ class Story:
     def look(self, held: Held) -> None:
         lane = self.panel.lane(held.id)
         lane.looks.append(held.clock)
-        if held.readings != {parameter: span.held for parameter, span in lane.now.items()}:
+        shown = {parameter: reading.value for parameter, reading in held.readings.items()}
+        if shown != {parameter: span.held for parameter, span in lane.now.items()}:
             lane.astray += 1
-        for parameter in [known for known in lane.now if known not in held.readings]:
+        for parameter in [known for known in lane.now if known not in shown]:
             lane.drop(parameter, held.clock)
-        for parameter, reading in held.readings.items():
-            lane.hold(parameter, reading, held.clock)
+        for parameter, value in shown.items():
+            lane.hold(parameter, value, held.clock)

@@ -109,6 +109,22 @@ class Running:
 
 
 @dataclass(frozen=True)
+class Reading:
+    """What is held for a parameter."""
+
+    value: Value
+
+    @property
+    def text(self) -> str:
+        return self.value.text
+
+    @staticmethod
+    def parse(words: list[str]) -> Reading:
+        kind, bits = words
+        return Reading(Value.parse(kind, bits))
+
+
+@dataclass(frozen=True)
 class Held:
     """All that is held for a motor."""
 
@@ -125,7 +141,7 @@ class Held:
     kp: Word
     kd: Word
     running: Running | None
-    readings: dict[int, Value]
+    readings: dict[int, Reading]
 
     def lines(self) -> list[str]:
         first = f"motor {self.id:02X} {self.host:02X} {self.model} {self.wait}"
@@ -133,7 +149,7 @@ class Held:
         parts = {"feedback": self.feedback, "fault": self.fault, "ping": self.ping}
         held = [f"{name} {part.text if part else 'none'}" for name, part in parts.items()]
         rest = [f"gains {self.kp:08X} {self.kd:08X}", f"running {self.running.text if self.running else 'none'}"]
-        readings = [f"reading {id:04X} {value.text}" for id, value in self.readings.items()]
+        readings = [f"reading {id:04X} {reading.text}" for id, reading in self.readings.items()]
         return [first, *counts, *held, *rest, *readings, "end"]
 
 
@@ -144,12 +160,12 @@ def held_of(first: str, after: Callable[[str], list[str]], line: Callable[[], st
     feedback, fault, ping = after("feedback"), after("fault"), after("ping")
     (kp, kd), running = after("gains"), after("running")
     none = ["none"]
-    readings: dict[int, Value] = {}
+    readings: dict[int, Reading] = {}
     while (text := line()) != "end":
-        name, parameter, kind, bits = text.split(" ")
+        name, parameter, *words = text.split(" ")
         if name != "reading" or digits(parameter, 4) <= max(readings, default=-1):
             raise ValueError("readings stand in rising id")
-        readings[digits(parameter, 4)] = Value.parse(kind, bits)
+        readings[digits(parameter, 4)] = Reading.parse(words)
     return Held(
         digits(id, 2), digits(host, 2), plain_word("a model", model), decimal(wait), decimal(clock), decimal(responses),
         decimal(sequence), None if feedback == none else Feedback.parse(feedback), None if fault == none else Fault.parse(fault),

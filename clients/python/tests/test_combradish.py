@@ -16,8 +16,8 @@ from pathlib import Path
 sys.path.insert(0, str(Path(__file__).resolve().parents[1]))
 
 from combradish import (  # noqa: E402
-    COMMANDS, Command, Died, Error, Finished, Frame, Held, Kind, Mode, Ok, Reason, Refusal, Refused, Sent, Station, Unexpected,
-    Value, Waiting, Word, parse_event, program_of, read_answer, value, word,
+    COMMANDS, Command, Died, Error, Finished, Frame, Held, Kind, Mode, Ok, Reading, Reason, Refusal, Refused, Sent, Station,
+    Unexpected, Value, Waiting, Word, parse_event, program_of, read_answer, value, word,
 )  # fmt: skip
 from combradish.shapes import parts  # noqa: E402
 
@@ -108,7 +108,7 @@ class Incident(unittest.TestCase):
                     self.assertEqual(value(int.from_bytes(finished.frame.data[4:], "little")), angle)
                     held = station.look(flap)
                     assert isinstance(held, Held)
-                    self.assertEqual(held.readings, {0x7005: Value.i8(5), 0x7019: Value.f32(angle)})
+                    self.assertEqual(held.readings, {0x7005: Reading(Value.i8(5)), 0x7019: Reading(Value.f32(angle))})
             lines = (ROOT / "sessions/incident.session").read_text("ascii").splitlines()
             said = [line for line in recording.read_text("ascii").splitlines() if not line.startswith(("#", "look"))]
             self.assertEqual(said, [line for line in lines if not line.startswith("#")][: len(said)])
@@ -180,7 +180,7 @@ class Strict(unittest.TestCase):
     def test_answers_of_another_form(self) -> None:
         frame = "(0.100000) can0 0300FD01#0000000000000000\n"
         bad = ["sent due 340\n", "ok\n", "waiting due\n", "waiting due 0340\n", "waiting due 340 \n", "finished\n",
-               "finished mode PP\n", "finished value F32 3F80000\n", "finished f32 3f800000\n", "refused\n", "refused 0\n", "refused 24\n",
+               "finished mode PP\n", "finished value F32 3F80000\n", "finished f32 3f800000\n", "refused\n", "refused 0\n", "refused 255\n",
                "refused 14\n", "refused 18 128\n", "refused 1 2\n", frame + "refused 1\n", frame + "waiting due 1\n",
                frame + frame + "sent due 1\n", frame.lower() + "sent due 1\n", "motor 01 FD rs-00 0\n", "\n", "\xff\n",
                "error word 2 is bad\n"]  # fmt: skip

@@ -183,7 +183,7 @@ CODEC = {Reason.NOT_A_PING_REPLY, Reason.NOT_A_VERSION_REPLY}
 
 class Refusals(unittest.TestCase):
     def test_the_program_refuses_by_the_same_table(self) -> None:
-        self.assertEqual([int(reason) for reason in Reason], list(range(1, 24)))
+        self.assertEqual([int(reason) for reason in Reason], list(range(1, len(Reason) + 1)))
         self.assertEqual({Reason(number) for number in REFUSALS} | CODEC, set(Reason))
         with Station(REPLAY) as station:
             for number, lines in REFUSALS.items():

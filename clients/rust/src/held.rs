@@ -18,7 +18,7 @@ pub struct Held {
     pub gains: Gains,
     pub running: Option<Running>,
     /// In rising parameter id.
-    pub readings: Vec<(u16, Value)>,
+    pub readings: Vec<Reading>,
 }
 
 #[derive(Clone, Debug, PartialEq, Eq)]
@@ -65,11 +65,18 @@ pub struct Running {
     pub due: u64,
 }
 
+/// What is held for a parameter.
+#[derive(Clone, Copy, Debug, PartialEq, Eq)]
+pub struct Reading {
+    pub parameter: u16,
+    pub value: Value,
+}
+
 impl Held {
     /// The held reading of a parameter.
     pub fn reading(&self, parameter: u16) -> Option<Value> {
-        let found = self.readings.iter().find(|(id, _)| *id == parameter)?;
-        Some(found.1)
+        let mut held = self.readings.iter();
+        Some(held.find(|held| held.parameter == parameter)?.value)
     }
 }
 
@@ -94,8 +101,8 @@ impl fmt::Display for Held {
         writeln!(f, "ping {}", or_none(&self.ping))?;
         writeln!(f, "gains {} {}", self.gains.kp, self.gains.kd)?;
         writeln!(f, "running {}", or_none(&self.running))?;
-        for (id, value) in &self.readings {
-            writeln!(f, "reading {id:04X} {value}")?;
+        for reading in &self.readings {
+            writeln!(f, "reading {reading}")?;
         }
         f.write_str("end")
     }
@@ -132,5 +139,11 @@ impl fmt::Display for Fault {
 impl fmt::Display for Running {
     fn fmt(&self, f: &mut fmt::Formatter) -> fmt::Result {
         write!(f, "{} due {}", self.command, self.due)
+    }
+}
+
+impl fmt::Display for Reading {
+    fn fmt(&self, f: &mut fmt::Formatter) -> fmt::Result {
+        write!(f, "{:04X} {}", self.parameter, self.value)
     }
 }

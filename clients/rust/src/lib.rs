@@ -43,7 +43,7 @@ pub use error::Error;
 pub use event::{Event, Form, Frame};
 pub use flags::{FaultFlag, StateFlag, WarningFlag};
 pub use heard::{Data, Direction, Heard, HeardId, Stamp};
-pub use held::{Fault, Feedback, Gains, Held, Registered, Running};
+pub use held::{Fault, Feedback, Gains, Held, Reading, Registered, Running};
 pub use name::{Interface, Model, NotAName};
 pub use recording::Recording;
 pub use refusal::Refusal;

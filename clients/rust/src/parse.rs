@@ -5,7 +5,7 @@ use crate::command::COMMANDS;
 use crate::event::Form;
 use crate::flags;
 use crate::heard::Heard;
-use crate::held::{Fault, Feedback, Gains, Held, Registered, Running};
+use crate::held::{Fault, Feedback, Gains, Held, Reading, Registered, Running};
 use crate::name::Model;
 use crate::refusal::Refusal;
 use crate::value::{Mode, Value, Word};
@@ -185,12 +185,14 @@ fn held(lines: &[String]) -> Parsed<Held> {
 }
 
 /// The readings between line 9 and the last: at most 96, in rising id.
-fn readings(lines: &[String]) -> Parsed<Vec<(u16, Value)>> {
-    let mut found: Vec<(u16, Value)> = Vec::new();
+fn readings(lines: &[String]) -> Parsed<Vec<Reading>> {
+    let mut found: Vec<Reading> = Vec::new();
     for k in 9..lines.len().saturating_sub(1) {
-        let above = found.last().map(|(id, _)| *id);
-        let rises = |read: &(u16, Value)| above < Some(read.0) && k < 9 + 96;
-        found.push(line(lines, k, |line| reading(line).filter(rises))?);
+        let above = found.last().map(|read| read.parameter);
+        let rises = |read: &Reading| above < Some(read.parameter) && k < 9 + 96;
+        found.push(line(lines, k, |line| {
+            reading(&after(line, "reading")?).filter(rises)
+        })?);
     }
     Ok(found)
 }
@@ -255,9 +257,12 @@ fn running(words: &[&str]) -> Option<Running> {
     })
 }
 
-fn reading(line: &str) -> Option<(u16, Value)> {
-    match after(line, "reading")?.as_slice() {
-        [id, kind, bits] => Some((hex_id(id)?, Value::of(kind, hex(bits)?)?)),
-        _ => None,
-    }
+fn reading(words: &[&str]) -> Option<Reading> {
+    let [parameter, kind, bits] = words else {
+        return None;
+    };
+    Some(Reading {
+        parameter: hex_id(parameter)?,
+        value: Value::of(kind, hex(bits)?)?,
+    })
 }

@@ -100,7 +100,7 @@ fn answers_that_are_none() {
         String::new(),
         "error no such event".to_string(),
         "refused 0".to_string(),
-        "refused 24".to_string(),
+        "refused 255".to_string(),
         "refused 14".to_string(),
         "refused +6".to_string(),
         "refused 06".to_string(),

@@ -31,7 +31,7 @@ use Rattle.station.specs.declared.station.After.{After}
 use Rattle.station.specs.Calls.{step, frame, remove, gives, ok, says, answered}
 use Rattle.station.specs.Station.{sourceOf}
 use Rattle.station.specs.Stations.{freeMotor, takenPlace, motorAt, withMotor, atPlace, tell, movedAt, notMoved, heardAt, removedAt, stepIn, frameIn, removeIn}
-use Rattle.station.specs.Demands.{number}
+use Rattle.station.specs.Demands.{number, countingNumbers, endingNumbers}
 use Rattle.station.proofs.Contracts.{replyIn, next, givenBy, given}
 use Rattle.station.proofs.Elsewhere.{either, at-place, placeBy, placeFor}
 use Rattle.station.proofs.Changed.{moving}
@@ -47,14 +47,14 @@ failedAt st i now =
 
 -- ---- 14 and 15
 
-motor-counted : (y : Motor) (f : CanFrame) (now : ℕ) → among (number (answered (processFeedbackFrame y f now .said))) (14 ∷ 15 ∷ []) ≡ true
+motor-counted : (y : Motor) (f : CanFrame) (now : ℕ) → among (number (answered (processFeedbackFrame y f now .said))) countingNumbers ≡ true
     → _≡_ {A = Motor} (processFeedbackFrame y f now .motor) (record { state = countedAt (y .state) now; readings = y .readings })
 unfolding processFeedbackFrame stateAfter readingsAfter among
 motor-counted y f now =
     let put = putOf (y .readings) (readId f) (readStored f) in
     go (frameSaid (y .state) f now (isFull (put .said))) (put .readings)
   where
-    go : (k : Checked) (new : Readings) → among (number (answered k)) (14 ∷ 15 ∷ []) ≡ true
+    go : (k : Checked) (new : Readings) → among (number (answered k)) countingNumbers ≡ true
         → _≡_ {A = Motor} (record { state = stateAfter k (y .state) f now; readings = readingsAfter k f new (y .readings) })
         (record { state = countedAt (y .state) now; readings = y .readings })
     go checked.Passed new e = absurd (true≢false (sym e))
@@ -63,7 +63,7 @@ motor-counted y f now =
 
 module _ (st : Station) (f : CanFrame) (now : ℕ) where
   abbrev Raised : After → Type 0
-  Raised r = among (number (gives (r .replied))) (14 ∷ 15 ∷ []) ≡ true → r .station ≡ raisedAt st (takenPlace (st .motors) (sourceOf f)) now
+  Raised r = among (number (gives (r .replied))) countingNumbers ≡ true → r .station ≡ raisedAt st (takenPlace (st .motors) (sourceOf f)) now
 
   frame-raised : Raised (frameIn st f now)
   unfolding frameIn among
@@ -76,14 +76,14 @@ module _ (st : Station) (f : CanFrame) (now : ℕ) where
       (λ e. absurd (true≢false (sym e))))
       (λ e. absurd (true≢false (sym e)))
 
-  pub place-counted : among (number (replyIn (given st (frame f now)))) (14 ∷ 15 ∷ []) ≡ true
+  pub place-counted : among (number (replyIn (given st (frame f now)))) countingNumbers ≡ true
       → next st (given st (frame f now)) ≡ raisedAt st (placeFor st (frame f now)) now
   unfolding givenBy replyIn next placeBy
   place-counted = frame-raised
 
 -- ---- 16, 17, 18 and 20
 
-motor-ended : (y : Motor) (now : ℕ) → among (number (says (stepOf y now .said) (stepOf y now .frame) (stepOf y now .result))) (16 ∷ 17 ∷ 18 ∷ 20 ∷ []) ≡ true
+motor-ended : (y : Motor) (now : ℕ) → among (number (says (stepOf y now .said) (stepOf y now .frame) (stepOf y now .result))) endingNumbers ≡ true
     → _≡_ {A = Motor} (stepOf y now .motor) (record { state = stateBy (y .state) now noCommand noOperation effect.Nothing; readings = y .readings })
 unfolding among
 motor-ended y now = go (stepSaid (y .state .clock) p now) refl (step-stays (y .state .clock) p now)
@@ -94,7 +94,7 @@ motor-ended y now = go (stepSaid (y .state .clock) p now) refl (step-stays (y .s
     after : Operation → Effect → Motor
     after op x = record { state = stateBy (y .state) now (y .state .command) op x; readings = readingsBy x (λ id. dropId (y .readings) id) (y .readings) }
 
-    over : (w : Said) (op : Operation) (x : Effect) (f : CanFrame) (b : List ℕ) → Closed w op x → among (number (says w f b)) (16 ∷ 17 ∷ 18 ∷ 20 ∷ []) ≡ true
+    over : (w : Said) (op : Operation) (x : Effect) (f : CanFrame) (b : List ℕ) → Closed w op x → among (number (says w f b)) endingNumbers ≡ true
         → after op x ≡ after noOperation effect.Nothing
     over (said.Sent due) op x f b h e = absurd (true≢false (sym e))
     over (said.Waiting due) op x f b h e = absurd (true≢false (sym e))
@@ -103,7 +103,7 @@ motor-ended y now = go (stepSaid (y .state .clock) p now) refl (step-stays (y .s
     over (said.Refused r) op x f b h e = ap (λ (o : Operation). after o x) (h .1) ∙ ap (λ (z : Effect). after noOperation z) (h .2)
 
     go : (k : Checked) → stepSaid (y .state .clock) p now ≡ k → Stays k
-        → among (number (says (stepBy k y now .said) (stepBy k y now .frame) (stepBy k y now .result))) (16 ∷ 17 ∷ 18 ∷ 20 ∷ []) ≡ true
+        → among (number (says (stepBy k y now .said) (stepBy k y now .frame) (stepBy k y now .result))) endingNumbers ≡ true
         → stepBy k y now .motor ≡ after noOperation effect.Nothing
     go checked.Passed q s e =
         let f = wanted p (λ id. findOf (y .readings) id) in
@@ -114,7 +114,7 @@ motor-ended y now = go (stepSaid (y .state .clock) p now) refl (step-stays (y .s
 
 module _ (st : Station) (m now : ℕ) where
   abbrev Failed : After → Type 0
-  Failed r = among (number (gives (r .replied))) (16 ∷ 17 ∷ 18 ∷ 20 ∷ []) ≡ true → r .station ≡ failedAt st (takenPlace (st .motors) m) now
+  Failed r = among (number (gives (r .replied))) endingNumbers ≡ true → r .station ≡ failedAt st (takenPlace (st .motors) m) now
 
   step-failed : Failed (stepIn st m now)
   unfolding stepIn among
@@ -123,7 +123,7 @@ module _ (st : Station) (m now : ℕ) where
       (λ i p e. ap (λ (y : Motor). withMotor st i y) (motor-ended (motorAt st i) now e) ∙ ap (λ (j : ℕ). failedAt st j now) p)
       (λ e. absurd (true≢false (sym e)))
 
-  pub place-ended : among (number (replyIn (given st (step m now)))) (16 ∷ 17 ∷ 18 ∷ 20 ∷ []) ≡ true
+  pub place-ended : among (number (replyIn (given st (step m now)))) endingNumbers ≡ true
       → next st (given st (step m now)) ≡ failedAt st (placeFor st (step m now)) now
   unfolding givenBy replyIn next placeBy
   place-ended = step-failed

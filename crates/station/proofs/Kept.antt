@@ -14,7 +14,7 @@ use Rattle.station.specs.Calls.{start, step, frame, remove, Reply, ok, s
 use Rattle.station.specs.Station.{Place, held, Distinct, sourceOf, stationCall}
 use Rattle.station.specs.Stations.{freeMotor, motorAt, withMotor, Shows}
 use Rattle.station.specs.History.{mine}
-use Rattle.station.specs.Demands.{inert, number, numbersOf, raised, failed}
+use Rattle.station.specs.Demands.{inert, number, numbersOf, raised, failed, countingNumbers, endingNumbers, movingNumbers}
 use Rattle.station.proofs.ChangedPlaces.{raisedAt, failedAt, place-counted, place-ended, place-freed}
 use Rattle.station.proofs.Contracts.{Out, replyIn, next, given, by-meaning, seen, shown, seen-is, Gives as ByValue, gives-given}
 use Rattle.station.proofs.Elsewhere.{placeFor, elsewhere}
@@ -27,14 +27,14 @@ module _ (Gives : Station → Asked → Out → Type 0) where
     pub others : (a : Asked) (o : Out) → Gives st a o → (m : ℕ) → mine m a ≡ false → seen (next st o) m ≡ seen st m
     pub freed : (m now : ℕ) (o : Out) → Gives st (remove m now) o → replyIn o ≡ ok → seen (next st o) m ≡ shown none
     pub counted : (f : CanFrame) (now : ℕ) (o : Out) (h : Lone) → Gives st (frame f now) o → held s (sourceOf f) ≡ some h
-        → among (number (replyIn o)) (14 ∷ 15 ∷ []) ≡ true → seen (next st o) (sourceOf f) ≡ shows (loneLook (raised h now))
+        → among (number (replyIn o)) countingNumbers ≡ true → seen (next st o) (sourceOf f) ≡ shows (loneLook (raised h now))
     pub ended : (m now : ℕ) (o : Out) (h : Lone) → Gives st (step m now) o → held s m ≡ some h
-        → among (number (replyIn o)) (16 ∷ 17 ∷ 18 ∷ 20 ∷ []) ≡ true → seen (next st o) m ≡ shows (loneLook (failed h now))
+        → among (number (replyIn o)) endingNumbers ≡ true → seen (next st o) m ≡ shows (loneLook (failed h now))
     pub numbers : (a : Asked) (o : Out) → Gives st a o → among (number (replyIn o)) (numbersOf (a .call)) ≡ true
     pub start-numbers : (m : ℕ) (c : Command) (now : ℕ) (o : Out) → Gives st (start m c now) o
-        → among (number (replyIn o)) (14 ∷ 15 ∷ 16 ∷ 17 ∷ 18 ∷ 20 ∷ 21 ∷ []) ≡ false
+        → among (number (replyIn o)) (21 ∷ movingNumbers) ≡ false
     pub frame-numbers : (f : CanFrame) (now : ℕ) (o : Out) → Gives st (frame f now) o
-        → among (number (replyIn o)) (16 ∷ 17 ∷ 18 ∷ 19 ∷ 20 ∷ 21 ∷ []) ≡ false
+        → among (number (replyIn o)) (19 ∷ 21 ∷ endingNumbers) ≡ false
 
   -- On any station: refused by a number other than 14 to 18 and 20, st comes back; all places but the call's own are the same; 14 and
   -- 15 change of the motor there the clock and the response count, 16, 17, 18 and 20 the clock and the operation; a removed motor's
@@ -43,9 +43,9 @@ module _ (Gives : Station → Asked → Out → Type 0) where
     pub refused : (st : Station) (a : Asked) (o : Out) → Gives st a o → inert (replyIn o) ≡ true → next st o ≡ st
     pub elsewhere : (st : Station) (a : Asked) (o : Out) → Gives st a o → (i : ℕ) → (i ≡ placeFor st a → ⊥) → motorAt (next st o) i ≡ motorAt st i
     pub counted : (st : Station) (f : CanFrame) (now : ℕ) (o : Out) → Gives st (frame f now) o
-        → among (number (replyIn o)) (14 ∷ 15 ∷ []) ≡ true → next st o ≡ raisedAt st (placeFor st (frame f now)) now
+        → among (number (replyIn o)) countingNumbers ≡ true → next st o ≡ raisedAt st (placeFor st (frame f now)) now
     pub ended : (st : Station) (m now : ℕ) (o : Out) → Gives st (step m now) o
-        → among (number (replyIn o)) (16 ∷ 17 ∷ 18 ∷ 20 ∷ []) ≡ true → next st o ≡ failedAt st (placeFor st (step m now)) now
+        → among (number (replyIn o)) endingNumbers ≡ true → next st o ≡ failedAt st (placeFor st (step m now)) now
     pub freed : (st : Station) (m now : ℕ) (o : Out) → Gives st (remove m now) o → replyIn o ≡ ok
         → next st o ≡ withMotor st (placeFor st (remove m now)) freeMotor
     pub good : (st : Station) (s : List Place) → Shows st s → Distinct s → CodeKept st s
@@ -73,14 +73,14 @@ module _ (Gives : Station → Asked → Out → Type 0) (is-given : (st : Statio
           others = λ a o g m e. seen-after a o g m (held s m) (λ r. Unit {0}) (λ u. demand1 .others s m a e) tt ∙ sym (seen-is st s m x);
           freed = λ m now o g. seen-after (remove m now) o g m none (λ r. r ≡ ok) (demand1 .freed s m now d);
           counted = λ f now o h g q.
-              seen-after (frame f now) o g (sourceOf f) (some (raised h now)) (λ r. among (number r) (14 ∷ 15 ∷ []) ≡ true) (demand1 .counted s f now h d q);
+              seen-after (frame f now) o g (sourceOf f) (some (raised h now)) (λ r. among (number r) countingNumbers ≡ true) (demand1 .counted s f now h d q);
           ended = λ m now o h g q.
-              seen-after (step m now) o g m (some (failed h now)) (λ r. among (number r) (16 ∷ 17 ∷ 18 ∷ 20 ∷ []) ≡ true) (demand1 .ended s m now h d q);
+              seen-after (step m now) o g m (some (failed h now)) (λ r. among (number r) endingNumbers ≡ true) (demand1 .ended s m now h d q);
           numbers = λ a o g. says-so a o g (λ r. among (number r) (numbersOf (a .call)) ≡ true) (demand1 .numbers s a);
           start-numbers = λ m c now o g.
-              says-so (start m c now) o g (λ r. among (number r) (14 ∷ 15 ∷ 16 ∷ 17 ∷ 18 ∷ 20 ∷ 21 ∷ []) ≡ false) (demand1 .start-numbers s m c now);
+              says-so (start m c now) o g (λ r. among (number r) (21 ∷ movingNumbers) ≡ false) (demand1 .start-numbers s m c now);
           frame-numbers = λ f now o g.
-              says-so (frame f now) o g (λ r. among (number r) (16 ∷ 17 ∷ 18 ∷ 19 ∷ 20 ∷ 21 ∷ []) ≡ false) (demand1 .frame-numbers s f now);
+              says-so (frame f now) o g (λ r. among (number r) (19 ∷ 21 ∷ endingNumbers) ≡ false) (demand1 .frame-numbers s f now);
         }
 
   pub demand1-of : CodeDemand1 Gives
@@ -89,10 +89,10 @@ module _ (Gives : Station → Asked → Out → Type 0) (is-given : (st : Statio
         refused = λ st a o g. of-given (λ st o. inert (replyIn o) ≡ true → next st o ≡ st) st a o g (given-still st a);
         elsewhere = λ st a o g. of-given (λ st o. (i : ℕ) → (i ≡ placeFor st a → ⊥) → motorAt (next st o) i ≡ motorAt st i) st a o g (elsewhere st a);
         counted = λ st f now o g.
-            of-given (λ st o. among (number (replyIn o)) (14 ∷ 15 ∷ []) ≡ true → next st o ≡ raisedAt st (placeFor st (frame f now)) now) st (frame f now) o g
+            of-given (λ st o. among (number (replyIn o)) countingNumbers ≡ true → next st o ≡ raisedAt st (placeFor st (frame f now)) now) st (frame f now) o g
             (place-counted st f now);
         ended = λ st m now o g.
-            of-given (λ st o. among (number (replyIn o)) (16 ∷ 17 ∷ 18 ∷ 20 ∷ []) ≡ true → next st o ≡ failedAt st (placeFor st (step m now)) now) st (step m now) o g
+            of-given (λ st o. among (number (replyIn o)) endingNumbers ≡ true → next st o ≡ failedAt st (placeFor st (step m now)) now) st (step m now) o g
             (place-ended st m now);
         freed = λ st m now o g.
             of-given (λ st o. replyIn o ≡ ok → next st o ≡ withMotor st (placeFor st (remove m now)) freeMotor) st (remove m now) o g (place-freed st m now);

@@ -30,6 +30,7 @@ use Rattle.station.specs.Station.{Place, held, put, place, empty, source
 use Rattle.station.specs.Station.{movesTo, hearsTo, leaves, loneBy, route, admission, stationBy, stationCall}
 use Rattle.station.specs.Stations.{freeMotor, newStation, placeOf, takenPlace, motorAt, atPlace, movedAt, heardAt, removedAt, registerIn, startIn, stepIn, frameIn, lookIn, removeIn}
 use Rattle.station.specs.Stations.{TakenAs, Shows, LeavesAs, replyOf}
+use Rattle.station.specs.Demands.{countingNumbers}
 use Rattle.station.proofs.Index.{free-places}
 use Rattle.station.proofs.Admitting.{by-tests}
 use Rattle.station.proofs.Places.{put-held}
@@ -60,7 +61,7 @@ step-id (checked.Refused r) m now = refl
 hear-id : (k : Checked) (a : State) (f : CanFrame) (now : ℕ) → (stateAfter k a f now) .«motor_id» ≡ a .«motor_id»
 unfolding stateAfter tells countedAt
 hear-id checked.Passed a f now = refl
-hear-id (checked.Refused r) a f now = go (among (numberOf r) (14 ∷ 15 ∷ []))
+hear-id (checked.Refused r) a f now = go (among (numberOf r) countingNumbers)
   where
     go : (b : Bool) → (cond b (countedAt a now) a) .«motor_id» ≡ a .«motor_id»
     go true = refl

@@ -31,14 +31,11 @@ use Rattle.station.specs.declared.call.Call.{Call}
 use Rattle.station.specs.declared.call.Call.the-variants as call
 use Rattle.station.specs.Calls.{start, frame, no, says, refused, Reply}
 use Rattle.station.specs.Station.{Place, held, full, isSome, movesTo, hearsTo, loneBy, route, admission, enter as takesIn, admit, sourceOf, toSource, stationBy, stationCall}
-use Rattle.station.specs.Demands.{checkedNumber, number, numbersOf}
+use Rattle.station.specs.Demands.{checkedNumber, number, startNumbers, stepNumbers, numbersOf, countingNumbers, endingNumbers, movingNumbers}
 use Rattle.station.proofs.NumberLists.{every, of-each, outside, of-first}
-use Rattle.station.proofs.Starts.{startNumbers, start-number}
+use Rattle.station.proofs.Starts.{start-number}
 
 -- ---- a step: 7 and 21, then the numbers by which an operation fails
-
-abbrev stepNumbers : List ℕ
-stepNumbers = 0 ∷ 6 ∷ 7 ∷ 21 ∷ 16 ∷ 17 ∷ 18 ∷ 20 ∷ []
 
 closed-number : (w : Said) (op : Operation) (x : Effect) (f : CanFrame) (b : List ℕ) → Closed w op x → among (number (says w f b)) stepNumbers ≡ true
 unfolding among
@@ -46,7 +43,7 @@ closed-number (said.Sent due) op x f b h = refl
 closed-number (said.Waiting due) op x f b h = refl
 closed-number (said.Finished r) op x f b h = refl
 closed-number (said.FinishedWith r) op x f b h = refl
-closed-number (said.Refused r) op x f b h = of-each (λ n. among n stepNumbers) (numberOf r) (16 ∷ 17 ∷ 18 ∷ 20 ∷ []) refl (h .0)
+closed-number (said.Refused r) op x f b h = of-each (λ n. among n stepNumbers) (numberOf r) endingNumbers refl (h .0)
 
 step-number : (h : Lone) (now : ℕ) → among (number ((movesTo (loneStep h now)) .0)) stepNumbers ≡ true
 unfolding movesTo among
@@ -93,7 +90,7 @@ numbers-by s (call.Step m now) f = route-number stepNumbers s m (held s m) _ _ r
 numbers-by s (call.Frame now) f = go (acceptsFrame (sourceOf f) f)
   where
     ns : List ℕ
-    ns = 0 ∷ 13 ∷ 7 ∷ 14 ∷ 15 ∷ []
+    ns = 0 ∷ 13 ∷ 7 ∷ countingNumbers
 
     go : (b : Bool) → among (number ((cond b (toSource s f now) (no refusal.FrameNotAccepted, s)) .0)) ns ≡ true
     go true =
@@ -114,11 +111,11 @@ none-of : (s : List Place) (a : Asked) (ys : List ℕ) → every (λ k. not (amo
 none-of s a ys h = outside (number ((stationCall s a) .0)) (numbersOf (a .call)) ys h (call-numbers s a)
 
 pub start-none : (s : List Place) (m : ℕ) (c : Command) (now : ℕ)
-    → among (number ((stationCall s (start m c now)) .0)) (14 ∷ 15 ∷ 16 ∷ 17 ∷ 18 ∷ 20 ∷ 21 ∷ []) ≡ false
+    → among (number ((stationCall s (start m c now)) .0)) (21 ∷ movingNumbers) ≡ false
 unfolding numbersOf among
-start-none s m c now = none-of s (start m c now) (14 ∷ 15 ∷ 16 ∷ 17 ∷ 18 ∷ 20 ∷ 21 ∷ []) refl
+start-none s m c now = none-of s (start m c now) (21 ∷ movingNumbers) refl
 
 pub frame-none : (s : List Place) (f : CanFrame) (now : ℕ)
-    → among (number ((stationCall s (frame f now)) .0)) (16 ∷ 17 ∷ 18 ∷ 19 ∷ 20 ∷ 21 ∷ []) ≡ false
+    → among (number ((stationCall s (frame f now)) .0)) (19 ∷ 21 ∷ endingNumbers) ≡ false
 unfolding numbersOf among
-frame-none s f now = none-of s (frame f now) (16 ∷ 17 ∷ 18 ∷ 19 ∷ 20 ∷ 21 ∷ []) refl
+frame-none s f now = none-of s (frame f now) (19 ∷ 21 ∷ endingNumbers) refl

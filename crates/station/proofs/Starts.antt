@@ -40,12 +40,9 @@ use Rattle.motor.proofs.Commands.{Opens, opens}
 use Rattle.motor.proofs.Stays.{argued-passed}
 use Rattle.station.specs.Calls.{says}
 use Rattle.station.specs.Station.{movesTo}
-use Rattle.station.specs.Demands.{checkedNumber, number}
+use Rattle.station.specs.Demands.{checkedNumber, number, startNumbers}
 use Rattle.station.proofs.Steps.{refused-passed}
 use Rattle.station.proofs.NumberLists.{of-first}
-
-abbrev pub startNumbers : List ℕ
-startNumbers = 0 ∷ 6 ∷ 7 ∷ 8 ∷ 9 ∷ 2 ∷ 19 ∷ 12 ∷ 10 ∷ 11 ∷ []
 
 -- said: no refusal
 abbrev Goes : Said → Type 0

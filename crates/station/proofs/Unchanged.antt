@@ -42,7 +42,7 @@ use Rattle.station.specs.declared.call.Call.the-variants as call
 use Rattle.station.specs.Calls.{gives}
 use Rattle.station.specs.Station.{sourceOf}
 use Rattle.station.specs.Stations.{freeMotor, placeOf, motorAt, withMotor, atPlace, tell, movedAt, notMoved, heardAt, removedAt, enteredIn, admittedIn, registerBy, registerIn, startIn, stepIn, frameIn, removeIn}
-use Rattle.station.specs.Demands.{inert}
+use Rattle.station.specs.Demands.{inert, countingNumbers, endingNumbers, movingNumbers}
 use Rattle.station.proofs.Contracts.{replyIn, next, givenBy, given}
 use Rattle.station.proofs.Elsewhere.{either, at-place}
 use Rattle.station.proofs.Refused.{said-moves, told-moves}
@@ -82,9 +82,9 @@ step-kept y now = go (stepSaid (y .state .clock) (y .state .operation .phase) no
     go (checked.Refused r) e q = refl
 
 -- 14 and 15 are two of those numbers
-fewer : (n : ℕ) → among n (14 ∷ 15 ∷ 16 ∷ 17 ∷ 18 ∷ 20 ∷ []) ≡ false → among n (14 ∷ 15 ∷ []) ≡ false
+fewer : (n : ℕ) → among n movingNumbers ≡ false → among n countingNumbers ≡ false
 unfolding among
-fewer n e = go (eqb 14 n) (eqb 15 n) (among n (16 ∷ 17 ∷ 18 ∷ 20 ∷ [])) e
+fewer n e = go (eqb 14 n) (eqb 15 n) (among n endingNumbers) e
   where
     go : (a b c : Bool) → a || (b || c) ≡ false → a || (b || false) ≡ false
     go true b c e = e

@@ -2,7 +2,7 @@
 use Prim.Native.Nat.{ℕ, _≤_}
 use mathlib.Core.Path.{_≡_}
 use mathlib.Core.Bool.{Bool, true, false, not}
-use mathlib.Core.List.{List, [], _∷_}
+use mathlib.Core.List.{List, [], _∷_, _++_}
 use mathlib.Core.Option.{none, some}
 use lib.ListN.{length, take}
 use Rattle.codec.specs.declared.bus.CanFrame.{CanFrame}
@@ -103,16 +103,32 @@ numberIn (answer.Looked k) = checkedNumber k
 abbrev pub number : Reply → ℕ
 number r = numberIn (r .replied .answer)
 
--- refused by a number other than 14 to 18 and 20
+-- the numbers of calls that change something, though they refuse: a frame that is counted, an operation that ends. Both move the clock
+abbrev pub countingNumbers : List ℕ
+countingNumbers = 14 ∷ 15 ∷ []
+
+abbrev pub endingNumbers : List ℕ
+endingNumbers = 16 ∷ 17 ∷ 18 ∷ 20 ∷ []
+
+abbrev pub movingNumbers : List ℕ
+movingNumbers = countingNumbers ++ endingNumbers
+
+-- refused by any other number
 unfoldable pub inert : Reply → Bool
-inert r = not (among (number r) (0 ∷ 14 ∷ 15 ∷ 16 ∷ 17 ∷ 18 ∷ 20 ∷ []))
+inert r = not (among (number r) (0 ∷ movingNumbers))
 
 -- the numbers that a call may get, 0 with them: those of its tests, in their order, and of a step those by which an operation fails
+abbrev pub startNumbers : List ℕ
+startNumbers = 0 ∷ 6 ∷ 7 ∷ 8 ∷ 9 ∷ 2 ∷ 19 ∷ 12 ∷ 10 ∷ 11 ∷ []
+
+abbrev pub stepNumbers : List ℕ
+stepNumbers = 0 ∷ 6 ∷ 7 ∷ 21 ∷ endingNumbers
+
 unfoldable pub numbersOf : Call → List ℕ
 numbersOf (call.Register m host model wait time) = 0 ∷ 1 ∷ 2 ∷ 3 ∷ 9 ∷ 7 ∷ 5 ∷ 4 ∷ []
-numbersOf (call.Start m c now) = 0 ∷ 6 ∷ 7 ∷ 8 ∷ 9 ∷ 2 ∷ 19 ∷ 12 ∷ 10 ∷ 11 ∷ []
-numbersOf (call.Step m now) = 0 ∷ 6 ∷ 7 ∷ 21 ∷ 16 ∷ 17 ∷ 18 ∷ 20 ∷ []
-numbersOf (call.Frame now) = 0 ∷ 13 ∷ 7 ∷ 14 ∷ 15 ∷ []
+numbersOf (call.Start m c now) = startNumbers
+numbersOf (call.Step m now) = stepNumbers
+numbersOf (call.Frame now) = 0 ∷ 13 ∷ 7 ∷ countingNumbers
 numbersOf (call.Look m) = 0 ∷ 6 ∷ []
 numbersOf (call.Remove m now) = 0 ∷ 6 ∷ 7 ∷ 8 ∷ []
 
@@ -131,13 +147,13 @@ pub record Demand1 : Type 0 where
   pub others : (s : List Place) (m : ℕ) (c : Asked) → mine m c ≡ false → held ((stationCall s c) .1) m ≡ held s m
   pub freed : (s : List Place) (m now : ℕ) → Distinct s → (stationCall s (remove m now)) .0 ≡ ok → held ((stationCall s (remove m now)) .1) m ≡ none
   pub counted : (s : List Place) (f : CanFrame) (now : ℕ) (h : Lone) → Distinct s → held s (sourceOf f) ≡ some h
-      → among (number ((stationCall s (frame f now)) .0)) (14 ∷ 15 ∷ []) ≡ true
+      → among (number ((stationCall s (frame f now)) .0)) countingNumbers ≡ true
       → held ((stationCall s (frame f now)) .1) (sourceOf f) ≡ some (raised h now)
   pub ended : (s : List Place) (m now : ℕ) (h : Lone) → Distinct s → held s m ≡ some h
-      → among (number ((stationCall s (step m now)) .0)) (16 ∷ 17 ∷ 18 ∷ 20 ∷ []) ≡ true
+      → among (number ((stationCall s (step m now)) .0)) endingNumbers ≡ true
       → held ((stationCall s (step m now)) .1) m ≡ some (failed h now)
   pub numbers : (s : List Place) (c : Asked) → among (number ((stationCall s c) .0)) (numbersOf (c .call)) ≡ true
   pub start-numbers : (s : List Place) (m : ℕ) (c : Command) (now : ℕ)
-      → among (number ((stationCall s (start m c now)) .0)) (14 ∷ 15 ∷ 16 ∷ 17 ∷ 18 ∷ 20 ∷ 21 ∷ []) ≡ false
+      → among (number ((stationCall s (start m c now)) .0)) (21 ∷ movingNumbers) ≡ false
   pub frame-numbers : (s : List Place) (f : CanFrame) (now : ℕ)
-      → among (number ((stationCall s (frame f now)) .0)) (16 ∷ 17 ∷ 18 ∷ 19 ∷ 20 ∷ 21 ∷ []) ≡ false
+      → among (number ((stationCall s (frame f now)) .0)) (19 ∷ 21 ∷ endingNumbers) ≡ false

@@ -151,7 +151,7 @@ marked =
 abbrev pub fills : List Asked
 fills = map (λ id. replies 1 id 0 0 0 0 0 100) (run 96 1)
 
--- the numbers, 1 to 23
+-- the numbers
 abbrev pub numbers : List Row
 numbers =
     refuses-last one [] (registered 0) (pos 1 ∷ [])

@@ -66,18 +66,33 @@ with-next m k n = record { state = m .state; readings = withNext (m .readings) k
 abbrev pub with-free : Motor → ℕ → Motor
 with-free m n = record { state = m .state; readings = record { records = m .readings .records; free = n } }
 
--- ---- sizes: a motor is 1,800 bytes, a record 16
+-- ---- bytes: of a motor and of a record; where the readings, a record's next and the first free record lie
 
-pub far : (i : ℕ) → i < 8 → i * 1800 < 2 ^ 64
+abbrev motorSize : ℕ
+motorSize = 1800
+
+abbrev readingsAt : ℕ
+readingsAt = 240
+
+abbrev pub recordSize : ℕ
+recordSize = 16
+
+abbrev nextAt : ℕ
+nextAt = 12
+
+abbrev freeAt : ℕ
+freeAt = recordSize * mostRecords
+
+pub far : (i : ℕ) → i < 8 → i * motorSize < 2 ^ 64
 far i l = omega (arith, l)
 
 pub small : (i : ℕ) → i < 8 → i < 2 ^ 64
 small i l = omega (arith, l)
 
-pub size-fits : 1800 < 2 ^ 64
+pub size-fits : motorSize < 2 ^ 64
 size-fits = omega arith
 
-pub far-row : (k : ℕ) → k < mostRecords → k * 16 < 2 ^ 64
+pub far-row : (k : ℕ) → k < mostRecords → k * recordSize < 2 ^ 64
 far-row k l = omega (arith, l)
 
 pub small-row : (k : ℕ) → k < mostRecords → k < 2 ^ 64
@@ -161,7 +176,7 @@ module _ {M : Type 1} (𝓤 : URA M) (H : Heap 𝓤) (A : Atoms 𝓤) (W : Given
   pub frees : lens.Lens 𝓤 H A W motor (thin.uint w16) (field 1 ∷ field 1 ∷ []) (λ m. m .readings .free) with-free
   frees = record {
     sight = record {
-      off = λ o. o + 240 + 1552;
+      off = λ o. o + readingsAt + freeAt;
       upd = λ h u. lens.with-field (motor .val h) 1 (lens.with-field (readings-val h) 1 u);
       way = λ b o. fld ! refl (fld ! refl (stop !));
       cell = λ q b o h. sub ! 1 refl (sub ! 1 refl (lens.whole-raw ! {τ = motor .ty} {v = motor .val h}));
@@ -175,16 +190,16 @@ module _ {M : Type 1} (𝓤 : URA M) (H : Heap 𝓤) (A : Atoms 𝓤) (W : Given
 
   -- record k of a motor's cell
   record-cell : (q : Share) (b o : ℕ) (h : Motor) (k : ℕ) → Known h → k < mostRecords
-      → Part {𝓤 = 𝓤} {H = H} {A = A} (Go {0}) W (‵ (fat q (rawTy (motor .ty)) b o (motor .val h))) q (reading .ty) b (place 16 (o + 240 + 0) k) (reading .val (recAt (h .readings .records) k)) (λ u. ‵ (fat q (rawTy (motor .ty)) b o (with-cells h (set (cells h) k u))))
+      → Part {𝓤 = 𝓤} {H = H} {A = A} (Go {0}) W (‵ (fat q (rawTy (motor .ty)) b o (motor .val h))) q (reading .ty) b (place recordSize (o + readingsAt + 0) k) (reading .val (recAt (h .readings .records) k)) (λ u. ‵ (fat q (rawTy (motor .ty)) b o (with-cells h (set (cells h) k u))))
   record-cell q b o h k is l =
       let len : length (cells h) ≡ mostRecords = structs.cells-length record-type.the-type record-laws.the-laws mostRecords (h .readings .records) _ (records-are h is) in
-      subst (λ (v : Val). Part {𝓤 = 𝓤} {H = H} {A = A} (Go {0}) W (‵ (fat q (rawTy (motor .ty)) b o (motor .val h))) q (reading .ty) b (place 16 (o + 240 + 0) k) v (λ u. ‵ (fat q (rawTy (motor .ty)) b o (with-cells h (set (cells h) k u)))))
+      subst (λ (v : Val). Part {𝓤 = 𝓤} {H = H} {A = A} (Go {0}) W (‵ (fat q (rawTy (motor .ty)) b o (motor .val h))) q (reading .ty) b (place recordSize (o + readingsAt + 0) k) v (λ u. ‵ (fat q (rawTy (motor .ty)) b o (with-cells h (set (cells h) k u)))))
       (structs.cell-at record-type.the-type record-laws.the-laws mostRecords (h .readings .records) k (freeRecord 0))
       (lens.element 𝓤 H A W q (reading .ty) b (reading .val (freeRecord 0)) mostRecords (cells h) k len (subst (λ (m : ℕ). k < m) (sym len) l) (sub ! 0 refl (sub ! 1 refl (lens.whole-raw ! {τ = motor .ty} {v = motor .val h}))))
 
-  pub ones : lens.Rows 𝓤 H A W motor reading (reading .ty) 16 mostRecords (field 1 ∷ field 0 ∷ []) [] with-record
+  pub ones : lens.Rows 𝓤 H A W motor reading (reading .ty) recordSize mostRecords (field 1 ∷ field 0 ∷ []) [] with-record
   ones = record {
-    base = λ o. o + 240 + 0;
+    base = λ o. o + readingsAt + 0;
     rest = λ o. o;
     array = tyArray (reading .ty) mostRecords;
     old = λ h k. reading .val (recAt (h .readings .records) k);
@@ -196,10 +211,10 @@ module _ {M : Type 1} (𝓤 : URA M) (H : Heap 𝓤) (A : Atoms 𝓤) (W : Given
     made = λ h k x l is x-is. record-made h k x is x-is;
   }
 
-  pub links : lens.Rows 𝓤 H A W motor (thin.uint w16) (reading .ty) 16 mostRecords (field 1 ∷ field 0 ∷ []) (field 2 ∷ []) with-next
+  pub links : lens.Rows 𝓤 H A W motor (thin.uint w16) (reading .ty) recordSize mostRecords (field 1 ∷ field 0 ∷ []) (field 2 ∷ []) with-next
   links = record {
-    base = λ o. o + 240 + 0;
-    rest = λ o. o + 12;
+    base = λ o. o + readingsAt + 0;
+    rest = λ o. o + nextAt;
     array = tyArray (reading .ty) mostRecords;
     old = λ h k. vint w16 (recAt (h .readings .records) k .next);
     upd = λ h k u. with-cells h (set (cells h) k (lens.with-field (reading .val (recAt (h .readings .records) k)) 2 u));

@@ -74,7 +74,7 @@ use Rattle.station.proofs.lent.call.call.Statement as stated
 use Rattle.station.proofs.lent.call.call.Code as code
 use Rattle.walks.proofs.CallWalk as walk
 use Rattle.walks.proofs.Lenses as lens
-use Rattle.station.proofs.lent.MotorParts.{motor, state, reading, ident, with-state, with-record, with-next, with-free, far, small, size-fits, far-row, small-row, sight, states, all, frees, ones, links}
+use Rattle.station.proofs.lent.MotorParts.{motor, state, reading, ident, with-state, with-record, with-next, with-free, recordSize, far, small, size-fits, far-row, small-row, sight, states, all, frees, ones, links}
 use Rattle.station.proofs.lent.Lending.{full, quiet, edit}
 
 -- ---- the types
@@ -93,7 +93,7 @@ abbrev the-code : Fn
 the-code =
     walk.code motor state reading asked replied said route-type.the-row kept-type.the-row visited-type.the-row edited-type.the-row (route-type.the-type .name) (kept-type.the-type .name) (visited-type.the-type .name) (edited-type.the-type .name) (edit-type.the-type .name)
     (λ r. r .«at») (λ r. r .said) (λ r. r .quiet) (λ r. r .edits) (λ v. v .state) (λ v. v .replied) (λ v. v .motor) (λ v. v .replied) (λ v. v .state) (λ v. v .edit .first) (λ v. v .edit .second) (λ v. v .edit .link) (λ v. v .edit .free) (λ v. v .edit .one) (λ v. v .replied)
-    (field 0 ∷ field 0 ∷ []) (field 0 ∷ []) (field 1 ∷ field 0 ∷ []) (field 2 ∷ []) (field 1 ∷ field 1 ∷ []) 16 mostRecords freeMotor ident (λ m. m .state) with-state with-record with-next with-free routedOf keptAt visitedAt editedAt
+    (field 0 ∷ field 0 ∷ []) (field 0 ∷ []) (field 1 ∷ field 0 ∷ []) (field 2 ∷ []) (field 1 ∷ field 1 ∷ []) recordSize mostRecords freeMotor ident (λ m. m .state) with-state with-record with-next with-free routedOf keptAt visitedAt editedAt
     routed-def.name kept-def.name edited-def.name visited-def.name
 
 code-is : code.function ≡ the-code
@@ -192,7 +192,7 @@ module _ {M : Type 1} (𝓤 : URA M) (H : Heap 𝓤) (A : Atoms 𝓤) (at-mem : 
       subst (λ (f : Fn). Meets 𝓤 H A own.signature (WpFn 𝓤 H (𝓣 .C) (𝓣 .Λ) f) (own.spec 𝓤 H A at-mem run)) (sym code-is)
       (walk.meets motor state reading asked replied said route-type.the-row kept-type.the-row visited-type.the-row edited-type.the-row (route-type.the-type .name) (kept-type.the-type .name) (visited-type.the-type .name) (edited-type.the-type .name) (edit-type.the-type .name)
       (λ r. r .«at») (λ r. r .said) (λ r. r .quiet) (λ r. r .edits) (λ v. v .state) (λ v. v .replied) (λ v. v .motor) (λ v. v .replied) (λ v. v .state) (λ v. v .edit .first) (λ v. v .edit .second) (λ v. v .edit .link) (λ v. v .edit .free) (λ v. v .edit .one) (λ v. v .replied)
-      (field 0 ∷ field 0 ∷ []) (field 0 ∷ []) (field 1 ∷ field 0 ∷ []) (field 2 ∷ []) (field 1 ∷ field 1 ∷ []) 16 mostRecords freeMotor ident (λ m. m .state) with-state with-record with-next with-free routedOf keptAt visitedAt editedAt
+      (field 0 ∷ field 0 ∷ []) (field 0 ∷ []) (field 1 ∷ field 0 ∷ []) (field 2 ∷ []) (field 1 ∷ field 1 ∷ []) recordSize mostRecords freeMotor ident (λ m. m .state) with-state with-record with-next with-free routedOf keptAt visitedAt editedAt
       𝓤 H A promised routed-ensures kept-ensures visited-ensures edited-ensures W size-fits far small tt far-row small-row routed-said kept-said visited-said edited-said
       (thin.struct-known 𝓤 H A W motor-type.the-type motor-laws.the-laws motor-laws.the-plain) (thin.struct-known 𝓤 H A W state-type.the-type state-laws.the-laws state-laws.the-plain) (thin.struct-known 𝓤 H A W record-type.the-type record-laws.the-laws record-laws.the-plain)
       (thin.struct-known 𝓤 H A W asked-type.the-type asked-laws.the-laws asked-laws.the-plain) (thin.struct-known 𝓤 H A W replied-type.the-type replied-laws.the-laws replied-laws.the-plain)
