@@ -171,6 +171,16 @@ said-fits s f result time = sent-short s f time & last-line-short s result
 
 -- ---- looks
 
+-- a reading's line, the lines above the readings, and all of them with the last
+abbrev readingBytes : ℕ
+readingBytes = 26
+
+abbrev stateBytes : ℕ
+stateBytes = 1380
+
+abbrev pub lookBytes : ℕ
+lookBytes = stateBytes + readingBytes * mostReadings + 4
+
 model-short : (m : Model) → Short (modelText m) 7
 model-short model.Rs00 = wider (words _) (omega arith)
 model-short model.Rs01 = wider (words _) (omega arith)
@@ -213,18 +223,18 @@ running-short op c =
     either (isIdle (op .phase)) (wider (words (ascii "running none\n")) (omega arith))
     (wider (words (ascii "running ") & word-short commands (2 * commandPlace c) & line-short (ascii " due") (op .due) (ascii "D")) (omega arith))
 
-held-short : (s : State) → Short (stateText s) 1380
+held-short : (s : State) → Short (stateText s) stateBytes
 unfolding stateText
 held-short s =
     motor-short _ _ _ _ & line-short (ascii "clock") (s .clock) (ascii "D")
     & line-short (ascii "responses") (s .responses) (ascii "D") & line-short (ascii "sequence") (s .feedback .sequence) (ascii "D")
     & feedback-short (s .feedback .latest) & fault-short (s .«fault_report») & held-ping-short (s .«ping_reply») & gains-short (s .gains) & running-short (s .operation) (s .command)
 
-reading-short : (e : Entry) → Short (readingText e) 26
+reading-short : (e : Entry) → Short (readingText e) readingBytes
 unfolding readingText
 reading-short e = named-short (ascii "reading") (e .id) (ascii "4") & words space & value-short (e .held .value) & words endOfLine
 
-readings-upto : (es : List Entry) (i : ℕ) → Short (readingsUpto es i) (26 * i)
+readings-upto : (es : List Entry) (i : ℕ) → Short (readingsUpto es i) (readingBytes * i)
 unfolding readingsUpto
 readings-upto es zero = none
 readings-upto es (suc i) = wider (readings-upto es i & reading-short (getD es i noEntry)) (omega arith)
@@ -233,18 +243,18 @@ least-by : (a b : ℕ) (c : Bool) → ltb a b ≡ c → cond c a b ≤ b
 least-by a b true e = omega (arith, ltb-true a b e)
 least-by a b false e = omega arith
 
-readings-short : (l : Listing) → Short (readingsText l) 2496
+readings-short : (l : Listing) → Short (readingsText l) (readingBytes * mostReadings)
 unfolding readingsText
 readings-short l = wider (readings-upto (l .entries) (least (l .count) mostReadings)) (omega (arith, least-by (l .count) mostReadings _ refl))
 
-seen-short : (s : Seen) → Short (seenText s) 3880
+seen-short : (s : Seen) → Short (seenText s) lookBytes
 unfolding seenText
 seen-short s = held-short (s .state) & readings-short (s .readings) & words (ascii "end\n")
 
-looked-by : (c : Checked) (s : Seen) → Short (lookedBy c s) 3880
+looked-by : (c : Checked) (s : Seen) → Short (lookedBy c s) lookBytes
 unfolding lookedBy
 looked-by checked.Passed s = seen-short s
 looked-by (checked.Refused r) s = wider (refused-short r) (omega arith)
 
-pub looked-fits : (l : Looked) → Short (lookedText l) 3880
+pub looked-fits : (l : Looked) → Short (lookedText l) lookBytes
 looked-fits l = looked-by (l .said) (l .seen)

@@ -5,7 +5,7 @@ use lib.IntN.{ℤ, pos}
 use Rattle.codec.specs.declared.error.LastMode.{LastMode}
 use Rattle.codec.specs.declared.error.LastMode.the-variants.{Unread, Read}
 use Rattle.codec.specs.declared.error.Refusal.{Refusal}
-use Rattle.codec.specs.declared.error.Refusal.the-variants.{MotorIdOutOfRange, HostIdOutOfRange, UnknownModel, StationFull, IdRegistered, IdNotRegistered, TimeOutOfRange, OperationRunning, TimeoutTooLong, UnlistedParameter, KindDiffers, UnknownProtocol, FrameNotAccepted, ReadFailed, ReadingsFull, WindowsGone, UnsupportedRunMode, ModeNotReached, NewDeviceIdZero, ReadingOfAnotherKind, NothingRunning, NotPingReply, NotVersionReply}
+use Rattle.codec.specs.declared.error.Refusal.the-variants as refusal
 
 -- what a refusal carries beside its number
 pub data Carried : Type 0 where
@@ -15,29 +15,29 @@ pub data Carried : Type 0 where
 
 -- the number of each refusal, and what it carries: 14 its id and status, 18 the last value, the others nothing
 abbrev pub rowOf : Refusal → ℕ × Carried
-rowOf MotorIdOutOfRange = (1, nothing)
-rowOf HostIdOutOfRange = (2, nothing)
-rowOf UnknownModel = (3, nothing)
-rowOf StationFull = (4, nothing)
-rowOf IdRegistered = (5, nothing)
-rowOf IdNotRegistered = (6, nothing)
-rowOf TimeOutOfRange = (7, nothing)
-rowOf OperationRunning = (8, nothing)
-rowOf TimeoutTooLong = (9, nothing)
-rowOf UnlistedParameter = (10, nothing)
-rowOf KindDiffers = (11, nothing)
-rowOf UnknownProtocol = (12, nothing)
-rowOf FrameNotAccepted = (13, nothing)
-rowOf (ReadFailed id status) = (14, statusOf id status)
-rowOf ReadingsFull = (15, nothing)
-rowOf WindowsGone = (16, nothing)
-rowOf UnsupportedRunMode = (17, nothing)
-rowOf (ModeNotReached last) = (18, lastRead last)
-rowOf NewDeviceIdZero = (19, nothing)
-rowOf ReadingOfAnotherKind = (20, nothing)
-rowOf NothingRunning = (21, nothing)
-rowOf NotPingReply = (22, nothing)
-rowOf NotVersionReply = (23, nothing)
+rowOf refusal.MotorIdOutOfRange = (1, nothing)
+rowOf refusal.HostIdOutOfRange = (2, nothing)
+rowOf refusal.UnknownModel = (3, nothing)
+rowOf refusal.StationFull = (4, nothing)
+rowOf refusal.IdRegistered = (5, nothing)
+rowOf refusal.IdNotRegistered = (6, nothing)
+rowOf refusal.TimeOutOfRange = (7, nothing)
+rowOf refusal.OperationRunning = (8, nothing)
+rowOf refusal.TimeoutTooLong = (9, nothing)
+rowOf refusal.UnlistedParameter = (10, nothing)
+rowOf refusal.KindDiffers = (11, nothing)
+rowOf refusal.UnknownProtocol = (12, nothing)
+rowOf refusal.FrameNotAccepted = (13, nothing)
+rowOf (refusal.ReadFailed id status) = (14, statusOf id status)
+rowOf refusal.ReadingsFull = (15, nothing)
+rowOf refusal.WindowsGone = (16, nothing)
+rowOf refusal.UnsupportedRunMode = (17, nothing)
+rowOf (refusal.ModeNotReached last) = (18, lastRead last)
+rowOf refusal.NewDeviceIdZero = (19, nothing)
+rowOf refusal.ReadingOfAnotherKind = (20, nothing)
+rowOf refusal.NothingRunning = (21, nothing)
+rowOf refusal.NotPingReply = (22, nothing)
+rowOf refusal.NotVersionReply = (23, nothing)
 
 abbrev pub numberOf : Refusal → ℕ
 numberOf r = rowOf r .0

@@ -41,7 +41,7 @@ pub enum Checked {
     Refused(Refusal),
 }
 
-// The number of a refusal, 1 to 23.
+// The number of a refusal.
 pub fn number(refusal: Refusal) -> u8
     ensures { λ r. ⌜ r ≡ numberOf refusal ⌝ }
 {
