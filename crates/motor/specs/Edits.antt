@@ -81,8 +81,5 @@ abbrev pub hearReadBy : Checked → Motor → IdParts → CanFrame → ℕ → R
 hearReadBy Passed m p f now = readTaken (countedAt (m .state) now) (m .readings) (statusIn p) f
 hearReadBy (Refused r) m p f now = readKept (m .state) (m .readings) (Refused r)
 
-abbrev pub hearReadSplit : Motor → IdParts → CanFrame → ℕ → ReadHeard
-hearReadSplit m p f now = hearReadBy (admittedTo (m .state) p f now) m p f now
-
 abbrev pub hearRead : Motor → CanFrame → ℕ → ReadHeard
-hearRead m f now = hearReadSplit m (partsOf f) f now
+hearRead m f now = hearReadBy (admittedTo (m .state) (partsOf f) f now) m (partsOf f) f now

@@ -206,8 +206,5 @@ abbrev pub hearStateBy : Checked → State → IdParts → CanFrame → ℕ → 
 hearStateBy Passed s p f now = stateHeard (toldBy (countedAt s now) p f) Passed
 hearStateBy (Refused r) s p f now = stateHeard s (Refused r)
 
-abbrev pub hearStateSplit : State → IdParts → CanFrame → ℕ → StateHeard
-hearStateSplit s p f now = hearStateBy (admittedTo s p f now) s p f now
-
 abbrev pub hearState : State → CanFrame → ℕ → StateHeard
-hearState s f now = hearStateSplit s (partsOf f) f now
+hearState s f now = hearStateBy (admittedTo s (partsOf f) f now) s (partsOf f) f now

@@ -16,12 +16,11 @@ use crate::receive::status_in;
 use codec::bus::CanFrame;
 use codec::error::Checked;
 use codec::error::Refusal;
-use codec::protocol::IdParts;
 use codec::protocol::ext_id_parts;
 ghost use mathlib.Core.Path.{_≡_};
 ghost use Prim.Native.Nat.{_≤_, _<_};
 ghost use Rattle.motor.specs.Limits.{mostReadings, mostRecords};
-ghost use Rattle.motor.specs.Edits.{editedBy, noEdit, addEdit, putEdit, readKept, readTaken, hearReadSplit, hearRead};
+ghost use Rattle.motor.specs.Edits.{editedBy, noEdit, addEdit, putEdit, readKept, hearRead};
 
 // What is to be stored of the readings: record `first` is `one`; then record `second` goes on to `link`; `free` is the first free record.
 pub struct Edit {
@@ -154,11 +153,20 @@ fn read_kept(state: State, rs: Readings, said: Checked) -> ReadHeard
     ReadHeard { state, edit, said }
 }
 
-// A read reply that is counted: 14 and 15 store nothing, and a value is put.
-fn read_taken(state: State, rs: Readings, status: u8, frame: CanFrame) -> ReadHeard
-    ensures { λ r. ⌜ (r ≡ readTaken state rs status frame) × (r .edit .first < mostRecords) × (r .edit .second < mostRecords) ⌝ }
+// A read reply, at a time: 13 and 7 change nothing; else it is counted, 14 and 15 store nothing, and a value is put.
+pub fn hear_read(m: Motor, frame: CanFrame, now: u64) -> ReadHeard
+    ensures { λ r. ⌜ (r ≡ hearRead m frame now) × (r .edit .first < mostRecords) × (r .edit .second < mostRecords) ⌝ }
 {
+    let s = m.state;
+    let rs = m.readings;
+    let parts = ext_id_parts(frame.arbitration_id);
+    let admitted = frame_admitted(s.motor_id, s.clock, frame.is_extended, parts, now);
+    if let Checked::Refused(refusal) = admitted {
+        return read_kept(s, rs, Checked::Refused(refusal));
+    }
+    let state = counted_at(s, now);
     let id = read_id(frame);
+    let status = status_in(parts);
     if status != 0 {
         return read_kept(
             state,
@@ -177,24 +185,4 @@ fn read_taken(state: State, rs: Readings, status: u8, frame: CanFrame) -> ReadHe
         },
         PutAnswer::Full => return read_kept(state, rs, Checked::Refused(Refusal::ReadingsFull)),
     }
-}
-
-// Its id split: 13 and 7 change nothing; else it is counted, and its status looked at.
-pub(crate) fn hear_read_split(m: Motor, parts: IdParts, frame: CanFrame, now: u64) -> ReadHeard
-    ensures { λ r. ⌜ (r ≡ hearReadSplit m parts frame now) × (r .edit .first < mostRecords) × (r .edit .second < mostRecords) ⌝ }
-{
-    let s = m.state;
-    let rs = m.readings;
-    match frame_admitted(s.motor_id, s.clock, frame.is_extended, parts, now) {
-        Checked::Passed => return read_taken(counted_at(s, now), rs, status_in(parts), frame),
-        Checked::Refused(refusal) => return read_kept(s, rs, Checked::Refused(refusal)),
-    }
-}
-
-// A read reply, at a time.
-pub fn hear_read(m: Motor, frame: CanFrame, now: u64) -> ReadHeard
-    ensures { λ r. ⌜ (r ≡ hearRead m frame now) × (r .edit .first < mostRecords) × (r .edit .second < mostRecords) ⌝ }
-{
-    let parts = ext_id_parts(frame.arbitration_id);
-    hear_read_split(m, parts, frame, now)
 }

@@ -5,10 +5,9 @@ use crate::receive::frame_admitted;
 use crate::receive::told_by;
 use codec::bus::CanFrame;
 use codec::error::Checked;
-use codec::protocol::IdParts;
 use codec::protocol::ext_id_parts;
 ghost use mathlib.Core.Path.{_≡_};
-ghost use Rattle.motor.specs.Receive.{stateHeard, hearStateSplit, hearState};
+ghost use Rattle.motor.specs.Receive.{stateHeard, hearState};
 
 // What such a frame answers, and the state after it.
 pub struct StateHeard {
@@ -22,10 +21,11 @@ fn state_heard(state: State, said: Checked) -> StateHeard
     StateHeard { state, said }
 }
 
-// Its id split: 13 and 7 leave the state as it was; else the frame is counted, and held by its type.
-pub(crate) fn hear_state_split(s: State, parts: IdParts, frame: CanFrame, now: u64) -> StateHeard
-    ensures { λ r. ⌜ r ≡ hearStateSplit s parts frame now ⌝ }
+// A frame that is no read reply, at a time: 13 and 7 leave the state as it was; else it is counted, and held by its type.
+pub fn hear_state(s: State, frame: CanFrame, now: u64) -> StateHeard
+    ensures { λ r. ⌜ r ≡ hearState s frame now ⌝ }
 {
+    let parts = ext_id_parts(frame.arbitration_id);
     match frame_admitted(s.motor_id, s.clock, frame.is_extended, parts, now) {
         Checked::Passed => return state_heard(
             told_by(counted_at(s, now), parts, frame),
@@ -33,12 +33,4 @@ pub(crate) fn hear_state_split(s: State, parts: IdParts, frame: CanFrame, now: u
         ),
         Checked::Refused(refusal) => return state_heard(s, Checked::Refused(refusal)),
     }
-}
-
-// A frame that is no read reply, at a time.
-pub fn hear_state(s: State, frame: CanFrame, now: u64) -> StateHeard
-    ensures { λ r. ⌜ r ≡ hearState s frame now ⌝ }
-{
-    let parts = ext_id_parts(frame.arbitration_id);
-    hear_state_split(s, parts, frame, now)
 }

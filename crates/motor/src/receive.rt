@@ -1,7 +1,7 @@
 // Receiving: what a frame does to what a motor holds. The rule stands once: a read reply is `edits`' hear_read, any other frame
 // `quiet`'s hear_state; process_feedback_frame stores what the one or the other gives.
 use crate::edits::edited_by;
-use crate::edits::hear_read_split;
+use crate::edits::hear_read;
 use crate::engine::operation::HeldPing;
 use crate::engine::reading::Stored;
 use crate::feedback::FeedbackCache;
@@ -11,7 +11,7 @@ use crate::limits::LATEST;
 use crate::motor::HeldFault;
 use crate::motor::Motor;
 use crate::motor::State;
-use crate::quiet::hear_state_split;
+use crate::quiet::hear_state;
 use crate::readings::Entry;
 use crate::readings::Readings;
 use codec::bus::CanFrame;
@@ -282,13 +282,13 @@ pub fn process_feedback_frame(m: Motor, frame: CanFrame, now: u64) -> Heard
     let parts = ext_id_parts(frame.arbitration_id);
     let readings = m.readings;
     if is_read(parts) {
-        let h = hear_read_split(m, parts, frame, now);
+        let h = hear_read(m, frame, now);
         let state = h.state;
         let edit = h.edit;
         let said = h.said;
         return heard_with(state, edited_by(readings, edit), said);
     }
-    let h = hear_state_split(m.state, parts, frame, now);
+    let h = hear_state(m.state, frame, now);
     let state = h.state;
     let said = h.said;
     heard_with(state, readings, said)

@@ -167,7 +167,9 @@ fn heard_at(st: Station, i: usize, h: Heard) -> After
 {
     let m = h.motor;
     let said = h.said;
-    tell(with_motor(st, i, m), said)
+    let station = with_motor(st, i, m);
+    let replied = told(said);
+    After { station, replied }
 }
 
 // A frame goes to the registered motor that accepts it.

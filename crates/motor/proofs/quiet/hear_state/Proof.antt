@@ -1,4 +1,4 @@
--- Right because the parts are those of the frame's id.
+-- Right because 13 and 7 are tested first, and a frame that passes is counted and tells.
 use borrow.Author.Needs.{needs}
 use Rattle.motor.proofs.quiet.hear_state.Statement.{statement}
 use Rattle.motor.proofs.quiet.hear_state.Tie as tie
@@ -6,11 +6,47 @@ use Rattle.motor.proofs.quiet.hear_state.Tie as tie
 ext-id-parts-requires : tie.Need-ext-id-parts-requires
 ext-id-parts-requires c κs = search needs
 
-hear-state-split-requires : tie.Need-hear-state-split-requires
-hear-state-split-requires c κs = search needs
+frame-admitted-requires : tie.Need-frame-admitted-requires
+frame-admitted-requires c κs = search needs
+
+enum-told : tie.Need-enum-told
+enum-told c = search needs
+
+counted-at-requires : tie.Need-counted-at-requires
+counted-at-requires c κs = search needs
+
+told-by-requires : tie.Need-told-by-requires
+told-by-requires c κs = search needs
+
+state-heard-requires : tie.Need-state-heard-requires
+state-heard-requires c κs = search needs
 
 returns : tie.Need-returns
-returns c = rw (← c .before .ext-id-parts .ensures) (c .hear-state-split .ensures)
+returns c = let k = c .before .before in
+    let a = k .before .before .before in
+    rw (← a .before .ext-id-parts .ensures, ← a .frame-admitted .ensures, k .before .enum-told .given .1, ← k .counted-at .ensures, ← c .before .told-by .ensures) (c .state-heard .ensures)
+
+enum-known-refusal : tie.Need-enum-known-refusal
+enum-known-refusal c = search needs
+
+state-heard-requires-2 : tie.Need-state-heard-requires-2
+state-heard-requires-2 c κs = search needs
+
+returns-2 : tie.Need-returns-2
+returns-2 c = let k = c .before in
+    rw (← k .before .before .before .before .ext-id-parts .ensures, ← k .before .before .before .frame-admitted .ensures, k .before .refusal .given .1) (c .state-heard2 .ensures)
 
 pub hear-state-spec : {M : Type 1} → statement M
-hear-state-spec = tie.close (tie.spec ext-id-parts-requires hear-state-split-requires returns)
+hear-state-spec =
+    tie.close
+    (tie.spec
+    ext-id-parts-requires
+    frame-admitted-requires
+    enum-told
+    counted-at-requires
+    told-by-requires
+    state-heard-requires
+    returns
+    enum-known-refusal
+    state-heard-requires-2
+    returns-2)

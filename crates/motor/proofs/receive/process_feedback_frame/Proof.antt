@@ -16,8 +16,8 @@ ext-id-parts-requires c κs = search needs
 is-read-requires : tie.Need-is-read-requires
 is-read-requires c κs = search needs
 
-hear-read-split-requires : tie.Need-hear-read-split-requires
-hear-read-split-requires c κs = search needs
+hear-read-requires : tie.Need-hear-read-requires
+hear-read-requires c κs = search needs
 
 edited-by-requires : tie.Need-edited-by-requires
 edited-by-requires c κs = search needs
@@ -33,10 +33,10 @@ returns c = let h = c .before .before .before .before in
     let a = p .before .args in
     let r = ap (λ (q : IdParts). eqb (q .«comm_type») 17) (sym (p .ext-id-parts .ensures)) ∙ sym (t .is-read .ensures) ∙ h .before .if1 .taken in
     heard-both (a .m) (a .frame) (a .now) (c .heard-with .result)
-    (rw (heard-read (a .m) (a .frame) (a .now) r, ← p .ext-id-parts .ensures, ← h .hear-read-split .ensures .0, ← c .before .edited-by .ensures) (c .heard-with .ensures))
+    (rw (heard-read (a .m) (a .frame) (a .now) r, ← h .hear-read .ensures .0, ← c .before .edited-by .ensures) (c .heard-with .ensures))
 
-hear-state-split-requires : tie.Need-hear-state-split-requires
-hear-state-split-requires c κs = search needs
+hear-state-requires : tie.Need-hear-state-requires
+hear-state-requires c κs = search needs
 
 heard-with-requires-2 : tie.Need-heard-with-requires-2
 heard-with-requires-2 c κs = search needs
@@ -49,7 +49,7 @@ returns-2 c = let h = c .before .before in
     let a = p .before .args in
     let r = ap (λ (q : IdParts). eqb (q .«comm_type») 17) (sym (p .ext-id-parts .ensures)) ∙ sym (t .is-read .ensures) ∙ h .before .if1 .left in
     heard-both (a .m) (a .frame) (a .now) (c .heard-with2 .result)
-    (rw (heard-quiet (a .m) (a .frame) (a .now) r, ← p .ext-id-parts .ensures, ← h .hear-state-split .ensures) (c .heard-with2 .ensures))
+    (rw (heard-quiet (a .m) (a .frame) (a .now) r, ← h .hear-state .ensures) (c .heard-with2 .ensures))
 
 pub process-feedback-frame-spec : {M : Type 1} → statement M
 process-feedback-frame-spec =
@@ -57,10 +57,10 @@ process-feedback-frame-spec =
     (tie.spec
     ext-id-parts-requires
     is-read-requires
-    hear-read-split-requires
+    hear-read-requires
     edited-by-requires
     heard-with-requires
     returns
-    hear-state-split-requires
+    hear-state-requires
     heard-with-requires-2
     returns-2)
