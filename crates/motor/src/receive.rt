@@ -280,8 +280,8 @@ pub fn process_feedback_frame(m: Motor, frame: CanFrame, now: u64) -> Heard
     ensures means { λ r. ⌜ ((l : List Entry) → Holds (m .readings) l → HeardAs r (hears (loneOf m l) frame now)) ⌝ }
 {
     let parts = ext_id_parts(frame.arbitration_id);
-    let readings = m.readings;
     if is_read(parts) {
+        let readings = m.readings;
         let h = hear_read(m, frame, now);
         let state = h.state;
         let edit = h.edit;
@@ -291,5 +291,7 @@ pub fn process_feedback_frame(m: Motor, frame: CanFrame, now: u64) -> Heard
     let h = hear_state(m.state, frame, now);
     let state = h.state;
     let said = h.said;
-    heard_with(state, readings, said)
+    let mut motor = m;
+    motor.state = state;
+    Heard { motor, said }
 }

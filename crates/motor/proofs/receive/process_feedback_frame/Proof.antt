@@ -28,28 +28,24 @@ heard-with-requires c κs = search needs
 returns : tie.Need-returns
 unfolding isRead
 returns c = let h = c .before .before .before .before in
-    let t = h .before .before in
-    let p = t .before .before in
+    let t = h .before .before .before in
+    let p = t .before in
     let a = p .before .args in
-    let r = ap (λ (q : IdParts). eqb (q .«comm_type») 17) (sym (p .ext-id-parts .ensures)) ∙ sym (t .is-read .ensures) ∙ h .before .if1 .taken in
+    let r = ap (λ (q : IdParts). eqb (q .«comm_type») 17) (sym (p .ext-id-parts .ensures)) ∙ sym (t .is-read .ensures) ∙ h .before .before .if1 .taken in
     heard-both (a .m) (a .frame) (a .now) (c .heard-with .result)
     (rw (heard-read (a .m) (a .frame) (a .now) r, ← h .hear-read .ensures .0, ← c .before .edited-by .ensures) (c .heard-with .ensures))
 
 hear-state-requires : tie.Need-hear-state-requires
 hear-state-requires c κs = search needs
 
-heard-with-requires-2 : tie.Need-heard-with-requires-2
-heard-with-requires-2 c κs = search needs
-
 returns-2 : tie.Need-returns-2
 unfolding isRead
-returns-2 c = let h = c .before .before in
+returns-2 c = let h = c .before in
     let t = h .before .before in
-    let p = t .before .before in
+    let p = t .before in
     let a = p .before .args in
     let r = ap (λ (q : IdParts). eqb (q .«comm_type») 17) (sym (p .ext-id-parts .ensures)) ∙ sym (t .is-read .ensures) ∙ h .before .if1 .left in
-    heard-both (a .m) (a .frame) (a .now) (c .heard-with2 .result)
-    (rw (heard-quiet (a .m) (a .frame) (a .now) r, ← h .hear-state .ensures) (c .heard-with2 .ensures))
+    heard-both (a .m) (a .frame) (a .now) _ (rw (heard-quiet (a .m) (a .frame) (a .now) r, ← h .hear-state .ensures))
 
 pub process-feedback-frame-spec : {M : Type 1} → statement M
 process-feedback-frame-spec =
@@ -62,5 +58,4 @@ process-feedback-frame-spec =
     heard-with-requires
     returns
     hear-state-requires
-    heard-with-requires-2
     returns-2)
