@@ -121,6 +121,13 @@ class Odd(unittest.TestCase):
         self.assertEqual(lanes(root), ["motor 1", "no motor"])
         self.assertIn('<jam> & "more"', ["".join(text.itertext()) for text in root.iter(f"{SVG}text")])
 
+    def test_a_torn_end_is_not_run(self) -> None:
+        motor = "register 1 0xFD rs-00 0 5\n"
+        self.assertEqual(classes(self.draw(motor + "start 1 5 enable\n"))["bar running"], 1)
+        root = self.draw(motor + "start 1 5 enable")
+        self.assertEqual(classes(root)["bar running"], 0)
+        self.assertEqual(lanes(root), ["motor 1", "no motor"])
+
     def test_little_and_much(self) -> None:
         self.assertEqual(lanes(self.draw("")), [])
         self.assertEqual(lanes(self.draw("fresh\nfresh\nlook 1\n")), ["no motor"])

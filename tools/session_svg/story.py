@@ -109,9 +109,11 @@ class Panel:
 
 
 def exchanges(session: str, answers: str) -> Iterator[tuple[str, Event | None, Answer | None]]:
-    """Each line of a session with its event and its answer. Answers that end early end the picture too."""
+    """Each line of a session with its event and its answer. Answers that end early end the picture too. A last line without LF
+    was answered, and not run: it is no event."""
     lines = iter(answers.removesuffix("\n").split("\n") if answers else [])
-    for line in session.split("\n"):
+    *whole, torn = session.split("\n")
+    for line in whole:
         line = line.removesuffix("\r")
         try:
             answer = read_answer(line, lambda: next(lines))
@@ -122,6 +124,9 @@ def exchanges(session: str, answers: str) -> Iterator[tuple[str, Event | None, A
         except ValueError:
             event = None
         yield line, event, answer
+    said = next(lines, "") if torn else ""
+    if said.startswith("error "):
+        yield torn, None, Error(said[6:])
 
 
 class Story:

@@ -13,13 +13,13 @@ from .events import EVENTS, AnyFrame, Event, Fresh, Heard, Look, Register, Remov
 from .held import Fault, Feedback, Held, PingReply, Reading, Running
 from .parameters import PARAMETERS, kind_of
 from .refusals import ENDING, Reason, Refusal
-from .station import Died, Station, program_of
+from .station import Died, Station, TimedOut, program_of
 from .values import Frame, Kind, Mode, Value, Word, value, word
 
 __all__ = [
     "Answer", "AnyFrame", "COMMANDS", "Command", "Died", "ENDING", "EVENTS", "Error", "Event", "Fault", "Feedback", "Finished",
     "Frame", "Fresh", "Heard", "Held", "Kind", "Look", "Mode", "Ok", "PARAMETERS", "PingReply", "ProtocolFlag", "Reading", "Reason",
-    "Refusal", "Refused", "Register", "Remove", "Result", "Running", "Sent", "Start", "Station", "Step", "Unexpected", "Value",
-    "Waiting", "Word",
+    "Refusal", "Refused", "Register", "Remove", "Result", "Running", "Sent", "Start", "Station", "Step", "TimedOut", "Unexpected",
+    "Value", "Waiting", "Word",
     "kind_of", "parse_event", "program_of", "read_answer", "value", "word",
 ]  # fmt: skip

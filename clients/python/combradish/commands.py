@@ -2,40 +2,37 @@
 
 from __future__ import annotations
 
-from collections.abc import Sequence
+from collections.abc import Callable, Sequence
 from dataclasses import dataclass
+from functools import wraps
+from inspect import signature
+from typing import ParamSpec
 
 from .shapes import Argument, checked, printed, read
 from .values import Mode, Value
 
-# The table of commands: a name, and the shape of its arguments.
-COMMANDS: dict[str, str] = {
-    "ping": "T",
-    "ping_with_host_id": "IT",
-    "set_mode": "C",
-    "ensure_control_mode": "CT",
-    "set_zero_position": "",
-    "save_parameters": "",
-    "get_protocol_flag": "T",
-    "set_protocol": "PT",
-    "set_device_id": "B",
-    "enable": "",
-    "disable": "",
-    "clear_error": "",
-    "set_active_report": "F",
-    "send_cmd_mit": "WWWWW",
-    "set_velocity_target": "W",
-    "get_control_mode": "T",
-    "controlled_stop": "T",
-    "write_parameter": "HKW",
-    "send_cmd_pos_vel_csp": "WW",
-    "send_cmd_pos_vel_pp": "WWW",
-    "request_parameter": "H",
-    "get_parameter": "HT",
-    "get_parameter_with_host_id": "HIT",
-    "get_parameter_f32": "HT",
-    "get_parameter_i8": "HT",
-}
+Arguments = tuple[Argument, ...]
+P = ParamSpec("P")
+
+# The table of commands: a name, and the shape of its arguments. The constructors of Command are its rows, in their order.
+COMMANDS: dict[str, str] = {}
+
+
+def row(shape: str) -> Callable[[Callable[P, Arguments]], staticmethod[P, Command]]:
+    """A row of the table and the constructor of its command, from a function that gives the arguments in order."""
+
+    def made(arguments: Callable[P, Arguments]) -> staticmethod[P, Command]:
+        name = arguments.__name__
+        COMMANDS[name] = shape
+
+        @wraps(arguments)
+        def command(*args: P.args, **kwargs: P.kwargs) -> Command:
+            return Command(name, arguments(*args, **kwargs))
+
+        setattr(command, "__signature__", signature(arguments).replace(return_annotation="Command"))
+        return staticmethod(command)
+
+    return made
 
 
 def shape_of(name: str) -> str:
@@ -46,10 +43,10 @@ def shape_of(name: str) -> str:
 
 @dataclass(frozen=True)
 class Command:
-    """An operation: the Rust method's name and its arguments. Made by the constructors below, one for each row of COMMANDS."""
+    """An operation: the Rust method's name and its arguments. Made by the constructors below, which are the rows of COMMANDS."""
 
     name: str
-    arguments: tuple[Argument, ...] = ()
+    arguments: Arguments = ()
 
     def __post_init__(self) -> None:
         object.__setattr__(self, "arguments", checked(shape_of(self.name), self.arguments))
@@ -64,102 +61,102 @@ class Command:
         name, *arguments = words
         return Command(name, read(shape_of(name), arguments))
 
-    @staticmethod
-    def ping(timeout: int) -> Command:
-        return Command("ping", (timeout,))
+    @row("T")
+    def ping(timeout: int) -> Arguments:
+        return (timeout,)
 
-    @staticmethod
-    def ping_with_host_id(host: int, timeout: int) -> Command:
-        return Command("ping_with_host_id", (host, timeout))
+    @row("IT")
+    def ping_with_host_id(host: int, timeout: int) -> Arguments:
+        return host, timeout
 
-    @staticmethod
-    def set_mode(mode: Mode) -> Command:
-        return Command("set_mode", (mode,))
+    @row("C")
+    def set_mode(mode: Mode) -> Arguments:
+        return (mode,)
 
-    @staticmethod
-    def ensure_control_mode(mode: Mode, timeout: int) -> Command:
-        return Command("ensure_control_mode", (mode, timeout))
+    @row("CT")
+    def ensure_control_mode(mode: Mode, timeout: int) -> Arguments:
+        return mode, timeout
 
-    @staticmethod
-    def set_zero_position() -> Command:
-        return Command("set_zero_position")
+    @row("")
+    def set_zero_position() -> Arguments:
+        return ()
 
-    @staticmethod
-    def save_parameters() -> Command:
-        return Command("save_parameters")
+    @row("")
+    def save_parameters() -> Arguments:
+        return ()
 
-    @staticmethod
-    def get_protocol_flag(timeout: int) -> Command:
-        return Command("get_protocol_flag", (timeout,))
+    @row("T")
+    def get_protocol_flag(timeout: int) -> Arguments:
+        return (timeout,)
 
-    @staticmethod
-    def set_protocol(protocol: int, timeout: int) -> Command:
-        return Command("set_protocol", (protocol, timeout))
+    @row("PT")
+    def set_protocol(protocol: int, timeout: int) -> Arguments:
+        return protocol, timeout
 
-    @staticmethod
-    def set_device_id(new_id: int) -> Command:
-        return Command("set_device_id", (new_id,))
+    @row("B")
+    def set_device_id(new_id: int) -> Arguments:
+        return (new_id,)
 
-    @staticmethod
-    def enable() -> Command:
-        return Command("enable")
+    @row("")
+    def enable() -> Arguments:
+        return ()
 
-    @staticmethod
-    def disable() -> Command:
-        return Command("disable")
+    @row("")
+    def disable() -> Arguments:
+        return ()
 
-    @staticmethod
-    def clear_error() -> Command:
-        return Command("clear_error")
+    @row("")
+    def clear_error() -> Arguments:
+        return ()
 
-    @staticmethod
-    def set_active_report(on: bool) -> Command:
-        return Command("set_active_report", (on,))
+    @row("F")
+    def set_active_report(on: bool) -> Arguments:
+        return (on,)
 
-    @staticmethod
-    def send_cmd_mit(pos: float, vel: float, kp: float, kd: float, torque: float) -> Command:
-        return Command("send_cmd_mit", (pos, vel, kp, kd, torque))
+    @row("WWWWW")
+    def send_cmd_mit(pos: float, vel: float, kp: float, kd: float, torque: float) -> Arguments:
+        return pos, vel, kp, kd, torque
 
-    @staticmethod
-    def set_velocity_target(vel: float) -> Command:
-        return Command("set_velocity_target", (vel,))
+    @row("W")
+    def set_velocity_target(vel: float) -> Arguments:
+        return (vel,)
 
-    @staticmethod
-    def get_control_mode(timeout: int) -> Command:
-        return Command("get_control_mode", (timeout,))
+    @row("T")
+    def get_control_mode(timeout: int) -> Arguments:
+        return (timeout,)
 
-    @staticmethod
-    def controlled_stop(timeout: int) -> Command:
-        return Command("controlled_stop", (timeout,))
+    @row("T")
+    def controlled_stop(timeout: int) -> Arguments:
+        return (timeout,)
 
-    @staticmethod
-    def write_parameter(parameter: int, value: Value) -> Command:
-        return Command("write_parameter", (parameter, value))
+    @row("HKW")
+    def write_parameter(parameter: int, value: Value) -> Arguments:
+        return parameter, value
 
-    @staticmethod
-    def send_cmd_pos_vel_csp(pos: float, vlim: float) -> Command:
-        return Command("send_cmd_pos_vel_csp", (pos, vlim))
+    @row("WW")
+    def send_cmd_pos_vel_csp(pos: float, vlim: float) -> Arguments:
+        return pos, vlim
 
-    @staticmethod
-    def send_cmd_pos_vel_pp(pos: float, vmax: float, acc: float) -> Command:
-        return Command("send_cmd_pos_vel_pp", (pos, vmax, acc))
+    @row("WWW")
+    def send_cmd_pos_vel_pp(pos: float, vmax: float, acc: float) -> Arguments:
+        return pos, vmax, acc
 
-    @staticmethod
-    def request_parameter(parameter: int) -> Command:
-        return Command("request_parameter", (parameter,))
+    @row("H")
+    def request_parameter(parameter: int) -> Arguments:
+        return (parameter,)
 
-    @staticmethod
-    def get_parameter(parameter: int, timeout: int) -> Command:
-        return Command("get_parameter", (parameter, timeout))
+    @row("HT")
+    def get_parameter(parameter: int, timeout: int) -> Arguments:
+        return parameter, timeout
 
-    @staticmethod
-    def get_parameter_with_host_id(parameter: int, host: int, timeout: int) -> Command:
-        return Command("get_parameter_with_host_id", (parameter, host, timeout))
+    @row("HIT")
+    def get_parameter_with_host_id(parameter: int, host: int, timeout: int) -> Arguments:
+        return parameter, host, timeout
 
-    @staticmethod
-    def get_parameter_f32(parameter: int, timeout: int) -> Command:
-        return Command("get_parameter_f32", (parameter, timeout))
+    @row("HT")
+    def get_parameter_f32(parameter: int, timeout: int) -> Arguments:
+        return parameter, timeout
 
-    @staticmethod
-    def get_parameter_i8(parameter: int, timeout: int) -> Command:
-        return Command("get_parameter_i8", (parameter, timeout))
+    @row("HT")
+    def get_parameter_i8(parameter: int, timeout: int) -> Arguments:
+        return parameter, timeout

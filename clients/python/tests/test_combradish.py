@@ -8,16 +8,20 @@ from __future__ import annotations
 import math
 import random
 import signal
+import subprocess
 import sys
 import tempfile
+import threading
+import time
 import unittest
+from collections.abc import Callable
 from pathlib import Path
 
 sys.path.insert(0, str(Path(__file__).resolve().parents[1]))
 
 from combradish import (  # noqa: E402
     COMMANDS, Command, Died, Error, Finished, Frame, Held, Kind, Mode, Ok, Reading, Reason, Refusal, Refused, Sent, Station,
-    Unexpected, Value, Waiting, Word, parse_event, program_of, read_answer, value, word,
+    TimedOut, Unexpected, Value, Waiting, Word, parse_event, program_of, read_answer, value, word,
 )  # fmt: skip
 from combradish.shapes import parts  # noqa: E402
 
@@ -113,6 +117,15 @@ class Incident(unittest.TestCase):
             said = [line for line in recording.read_text("ascii").splitlines() if not line.startswith(("#", "look"))]
             self.assertEqual(said, [line for line in lines if not line.startswith("#")][: len(said)])
 
+    def test_a_torn_recording_ends_with_an_error(self) -> None:
+        session = "register 1 0xFD rs-00 0 100\nstart 1 100 get_parameter 0x7019 50"
+        for end in ("", "00", " fly"):
+            said = subprocess.run([REPLAY], input=(session + end).encode("ascii"), capture_output=True, check=True).stdout
+            lines = iter(said.decode("ascii").splitlines())
+            answers = [read_answer(event, lambda: next(lines)) for event in (session + end).split("\n")]
+            self.assertEqual(answers, [Ok(), Error("the input ends within a line")])
+            self.assertEqual(next(lines, None), None)
+
     def test_refusals(self) -> None:
         with Station(REPLAY) as station:
             self.assertEqual(station.look(9), Refused(Refusal(Reason.ID_NOT_REGISTERED)))
@@ -174,6 +187,115 @@ class Death(unittest.TestCase):
             Station(REPLAY, file.name)
         with self.assertRaises(FileNotFoundError):
             Station("no/such/program")
+
+
+def meanwhile(call: Callable[[], object]) -> tuple[threading.Thread, list[object]]:
+    """A call of another thread, with what it gives or raises."""
+    ended: list[object] = []
+
+    def run() -> None:
+        try:
+            ended.append(call())
+        except Exception as error:
+            ended.append(error)
+
+    thread = threading.Thread(target=run, daemon=True)
+    thread.start()
+    return thread, ended
+
+
+class Fair:
+    """A lock that lets the others go first where it is released."""
+
+    def __init__(self) -> None:
+        self.lock = threading.RLock()
+
+    def __enter__(self) -> None:
+        self.lock.acquire()
+
+    def __exit__(self, *_: object) -> None:
+        self.lock.release()
+        time.sleep(0.3)
+
+
+class Limit(unittest.TestCase):
+    def test_a_child_that_never_answers(self) -> None:
+        """It is ended, and what it might have said is no later event's answer."""
+        for said in ("", "waiting", "(0.100000) can0 0300FD01#0000000000000000\n"):
+            code = f"import sys, time; sys.stdout.write({said!r}); sys.stdout.flush(); time.sleep(60)"
+            with self.subTest(said), Station(child(code), limit=0.5) as station:
+                begun = time.monotonic()
+                with self.assertRaises(TimedOut) as caught:
+                    station.step(1, 100)
+                self.assertLess(time.monotonic() - begun, 30)
+                self.assertEqual((caught.exception.status, caught.exception.last_event), (None, "step 1 100"))
+                self.assertIn("within 0.5 s", str(caught.exception))
+                self.assertIsNotNone(station._child.poll())
+                with self.assertRaises(TimedOut) as again:
+                    station.fresh()
+                self.assertIs(again.exception, caught.exception)
+
+    def test_a_child_that_says_no_end(self) -> None:
+        """Bytes that go on and on don't put the limit off."""
+        code = "import sys, time\nwhile True: sys.stdout.write('a'); sys.stdout.flush(); time.sleep(0.05)"
+        with self.assertRaises(TimedOut), Station(child(code), limit=0.5) as station:
+            station.fresh()
+
+    def test_a_child_that_takes_nothing(self) -> None:
+        """Comments have no answer, so a child that doesn't read is noticed where its pipe is full."""
+        with self.assertRaises(TimedOut), Station(child("import time; time.sleep(60)"), limit=0.5) as station:
+            for _ in range(100):
+                station.note("a" * 4000)
+
+    def test_a_child_that_does_not_end(self) -> None:
+        with self.assertRaises(TimedOut), Station(child("import time; time.sleep(60)"), limit=0.5):
+            pass
+
+    def test_limits(self) -> None:
+        for limit in (0, -1, math.nan, math.inf):
+            with self.subTest(limit), self.assertRaises(ValueError):
+                Station(REPLAY, limit=limit)
+
+
+class Threads(unittest.TestCase):
+    def test_closed_while_another_waits(self) -> None:
+        """The other thread has its answer, and then the station is closed."""
+        code = "import sys, time; sys.stdin.readline(); time.sleep(0.5); print('ok', flush=True); sys.stdin.read()"
+        station = Station(child(code))
+        thread, ended = meanwhile(station.fresh)
+        while not station.last_event:
+            time.sleep(0.01)
+        station.close()
+        thread.join(10)
+        self.assertEqual(ended, [Ok()])
+        with self.assertRaises(ValueError):
+            station.fresh()
+        station.close()
+
+    def test_closed_while_another_waits_for_nothing(self) -> None:
+        station = Station(child("import time; time.sleep(60)"), limit=0.5)
+        thread, ended = meanwhile(station.fresh)
+        while not station.last_event:
+            time.sleep(0.01)
+        station.close()
+        thread.join(10)
+        self.assertIsInstance(ended[0], TimedOut)
+
+    def test_what_breaks_one_thread_breaks_all(self) -> None:
+        """An answer that the event can't have: no thread that waits for its turn says an event more."""
+        code = "import sys\nfor line in sys.stdin: print('error no such event', flush=True)"
+        with tempfile.TemporaryDirectory() as folder:
+            recording = Path(folder, "session")
+            station = Station(child(code), recording)
+            setattr(station, "_lock", Fair())
+            calls = [meanwhile(station.fresh) for _ in range(4)]
+            for thread, _ in calls:
+                thread.join(10)
+            raised = [ended[0] for _, ended in calls]
+            self.assertIsInstance(raised[0], Unexpected)
+            self.assertTrue(all(error is raised[0] for error in raised))
+            self.assertEqual(recording.read_text(), "fresh\n")
+            station.close()
 
 
 class Strict(unittest.TestCase):

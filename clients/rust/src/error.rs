@@ -1,5 +1,6 @@
 //! What can go wrong in the conversation. A refusal isn't among it: it is an answer.
 use std::process::ExitStatus;
+use std::time::Duration;
 use std::{fmt, io};
 
 /// After any of these nothing more can be said to the station.
@@ -10,6 +11,13 @@ pub enum Error {
         status: Option<ExitStatus>,
         last_event: String,
         /// The last lines that it said, the latest last; one may be cut short.
+        last_answers: Vec<String>,
+    },
+    /// The program didn't answer, or end, within the time limit, and was ended.
+    TimedOut {
+        limit: Duration,
+        last_event: String,
+        /// As above.
         last_answers: Vec<String>,
     },
     /// A line that isn't an answer to the event.
@@ -31,10 +39,16 @@ impl fmt::Display for Error {
                 let status = status.map_or_else(|| "no status".to_string(), |s| s.to_string());
                 write!(f, "the station's program ended ({status}) ")?;
                 write!(f, "before it had answered `{last_event}`; ")?;
-                match last_answers.as_slice() {
-                    [] => write!(f, "it had said nothing"),
-                    lines => write!(f, "the last it said: `{}`", lines.join("`, `")),
-                }
+                said(f, last_answers)
+            }
+            Error::TimedOut {
+                limit,
+                last_event,
+                last_answers,
+            } => {
+                write!(f, "the station's program didn't answer `{last_event}` ")?;
+                write!(f, "within {limit:?} and was ended; ")?;
+                said(f, last_answers)
             }
             Error::Unexpected { event, line } => {
                 write!(f, "`{event}` was answered by `{line}`, which is no answer to it; is it the right program?")
@@ -47,11 +61,21 @@ impl fmt::Display for Error {
     }
 }
 
+fn said(f: &mut fmt::Formatter, last_answers: &[String]) -> fmt::Result {
+    match last_answers {
+        [] => write!(f, "it had said nothing"),
+        lines => write!(f, "the last it said: `{}`", lines.join("`, `")),
+    }
+}
+
 impl std::error::Error for Error {
     fn source(&self) -> Option<&(dyn std::error::Error + 'static)> {
         match self {
             Error::Io { error, .. } => Some(error),
-            Error::Died { .. } | Error::Unexpected { .. } | Error::Over { .. } => None,
+            Error::Died { .. }
+            | Error::TimedOut { .. }
+            | Error::Unexpected { .. }
+            | Error::Over { .. } => None,
         }
     }
 }

@@ -31,6 +31,7 @@ mod heard;
 mod held;
 mod name;
 mod parse;
+mod program;
 mod recording;
 mod refusal;
 mod shape;

@@ -6,11 +6,11 @@ use crate::event::{Event, Form, Frame};
 use crate::heard::Heard;
 use crate::name::Model;
 use crate::parse::{self, Parsed};
+use crate::program::{Limit, Next, Program, ENDING};
 use crate::recording::Recording;
 use std::collections::VecDeque;
-use std::io::{BufRead, BufReader, Read, Write};
 use std::path::Path;
-use std::process::{Child, ChildStdin, ChildStdout, ExitStatus, Stdio};
+use std::process::ExitStatus;
 use std::time::Duration;
 
 /// A line of an answer is never longer.
@@ -18,11 +18,13 @@ const LINE: u64 = 4096;
 /// How many of the last lines are kept for an error.
 const KEPT: usize = 16;
 
-/// A running replay. Dropping it closes its input and waits for it.
+/// How long an answer is waited for, where nothing else is said.
+const LIMIT: Duration = Duration::from_secs(10);
+
+/// A running replay. Dropping it closes its input and waits for it a second; then it is ended.
 pub struct Station {
-    child: Child,
-    stdin: Option<ChildStdin>,
-    stdout: Option<BufReader<ChildStdout>>,
+    program: Program,
+    limit: Duration,
     recording: Recording,
     last: VecDeque<String>,
     over: Option<String>,
@@ -31,22 +33,24 @@ pub struct Station {
 impl Station {
     /// Runs the program, with a station that has no motor.
     pub fn open(program: &Path, recording: Recording) -> Result<Station, Error> {
-        let mut child = std::process::Command::new(program)
-            .stdin(Stdio::piped())
-            .stdout(Stdio::piped())
-            .spawn()
-            .map_err(|error| Error::Io {
-                doing: format!("starting {}", program.display()),
-                error,
-            })?;
+        let program = Program::start(program, LINE).map_err(|error| Error::Io {
+            doing: format!("starting {}", program.display()),
+            error,
+        })?;
         Ok(Station {
-            stdin: child.stdin.take(),
-            stdout: child.stdout.take().map(BufReader::new),
-            child,
+            program,
+            limit: LIMIT,
             recording,
             last: VecDeque::new(),
             over: None,
         })
+    }
+
+    /// The same station with another time limit than 10 seconds, for each answer and for the end of
+    /// the program.
+    pub fn within(mut self, limit: Duration) -> Station {
+        self.limit = limit;
+        self
     }
 
     /// Begins again with no motor.
@@ -130,16 +134,15 @@ impl Station {
         if let Some(first) = self.over.clone() {
             return Err(Error::Over { first });
         }
-        self.stdin = None;
-        let (event, mut rest) = ("(the end of the session)".to_string(), Vec::new());
-        if let Some(stdout) = &mut self.stdout {
+        self.program.close_input();
+        let event = "(the end of the session)".to_string();
+        match self.program.next(&Limit::of(self.limit)) {
+            Next::Line(line) => return Err(self.unexpected(event, text(&line))),
+            Next::Late => return Err(self.late(&event)),
             // What can't be read any more isn't said.
-            let _ = stdout.take(LINE).read_to_end(&mut rest);
+            Next::End | Next::Failed(_) => {}
         }
-        if !rest.is_empty() {
-            return Err(self.unexpected(event, text(&rest)));
-        }
-        match self.end() {
+        match self.program.end() {
             Some(status) if status.success() => Ok(()),
             status => Err(self.dead(status, event)),
         }
@@ -173,35 +176,31 @@ impl Station {
 
     /// Records and writes an event's line, and reads lines until its answer is whole.
     fn converse(&mut self, event: &str, form: Form) -> Result<Vec<String>, Error> {
-        let line = format!("{event}\n");
+        let (line, limit) = (format!("{event}\n"), Limit::of(self.limit));
         self.recording.event(&line)?;
-        let written = match &mut self.stdin {
-            Some(stdin) => stdin
-                .write_all(line.as_bytes())
-                .and_then(|()| stdin.flush()),
-            None => Ok(()),
-        };
-        if written.is_err() {
+        if self.program.say(line.as_bytes()).is_err() {
             return Err(self.died(event));
         }
         let mut lines = Vec::new();
         while !form.is_whole(&lines) {
-            lines.push(self.line(event)?);
+            lines.push(self.line(event, &limit)?);
         }
         Ok(lines)
     }
 
     /// The next line that the program says, without its end.
-    fn line(&mut self, event: &str) -> Result<String, Error> {
-        let mut bytes = Vec::new();
-        let read = match &mut self.stdout {
-            Some(stdout) => stdout.take(LINE).read_until(b'\n', &mut bytes),
-            None => Ok(0),
+    fn line(&mut self, event: &str, limit: &Limit) -> Result<String, Error> {
+        let bytes = match self.program.next(limit) {
+            Next::Line(bytes) => bytes,
+            Next::End => Vec::new(),
+            Next::Late => return Err(self.late(event)),
+            Next::Failed(error) => {
+                return Err(Error::Io {
+                    doing: format!("reading the answer to `{event}`"),
+                    error,
+                })
+            }
         };
-        read.map_err(|error| Error::Io {
-            doing: format!("reading the answer to `{event}`"),
-            error,
-        })?;
         self.recording.answer(&bytes)?;
         match bytes.split_last() {
             Some((b'\n', line)) => {
@@ -230,18 +229,30 @@ impl Station {
 
     /// The error of a program that ended. What it still said is kept.
     fn died(&mut self, event: &str) -> Error {
-        let status = self.end();
-        let mut rest = Vec::new();
-        if let Some(stdout) = &mut self.stdout {
-            // What can't be read any more wasn't said.
-            let _ = stdout.take(16 * LINE).read_to_end(&mut rest);
-        }
-        // This error matters more than that of a recording that can't be written.
-        let _ = self.recording.answer(&rest);
-        for line in rest.split(|byte| *byte == b'\n') {
-            self.keep(line);
-        }
+        let status = self.program.end();
+        self.keep_rest();
         self.dead(status, event.to_string())
+    }
+
+    /// The error of a program that is over its time. It is ended, and what it still said is kept.
+    fn late(&mut self, event: &str) -> Error {
+        self.program.kill();
+        self.keep_rest();
+        Error::TimedOut {
+            limit: self.limit,
+            last_event: event.to_string(),
+            last_answers: self.last.iter().cloned().collect(),
+        }
+    }
+
+    fn keep_rest(&mut self) {
+        let (limit, mut kept) = (Limit::of(ENDING), 0);
+        while let (true, Next::Line(bytes)) = (kept < KEPT, self.program.next(&limit)) {
+            kept += 1;
+            // The error that is told matters more than that of a recording that can't be written.
+            let _ = self.recording.answer(&bytes);
+            self.keep(bytes.strip_suffix(b"\n").unwrap_or(&bytes));
+        }
     }
 
     fn dead(&self, status: Option<ExitStatus>, last_event: String) -> Error {
@@ -256,30 +267,6 @@ impl Station {
         let error = Error::Unexpected { event, line };
         self.over = Some(error.to_string());
         error
-    }
-
-    /// Closes the program's input and waits a second for its end; then it is ended.
-    fn end(&mut self) -> Option<ExitStatus> {
-        self.stdin = None;
-        for _ in 0..200 {
-            match self.child.try_wait() {
-                Ok(None) => std::thread::sleep(Duration::from_millis(5)),
-                Ok(status) => return status,
-                Err(_) => return None,
-            }
-        }
-        // Where it has just ended by itself there is nothing to end.
-        let _ = self.child.kill();
-        self.child.wait().ok()
-    }
-}
-
-impl Drop for Station {
-    fn drop(&mut self) {
-        self.stdin = None;
-        self.stdout = None;
-        // A child that can't be waited for is nobody's any more.
-        let _ = self.child.wait();
     }
 }
 

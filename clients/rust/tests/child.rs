@@ -9,6 +9,7 @@ use std::fs::{self, File, Permissions};
 use std::os::unix::fs::PermissionsExt;
 use std::path::{Path, PathBuf};
 use std::sync::{Mutex, MutexGuard, PoisonError};
+use std::time::{Duration, Instant};
 
 /// One test at a time: a script that another thread's child still has open can't be started.
 fn alone() -> MutexGuard<'static, ()> {
@@ -87,6 +88,61 @@ fn a_program_that_answers_twice() {
         said,
         "register 1 0xFD rs-00 0 100\nstart 1 100 enable\nstep 1 120\n"
     );
+}
+
+/// It is ended, and what it might have said is no later event's answer.
+#[test]
+fn a_program_that_never_answers() {
+    let _alone = alone();
+    let frame = "echo '(0.100000) can0 0300FD01#0000000000000000'; exec sleep 60";
+    let texts = [
+        ("exec sleep 60", vec![]),
+        ("printf waiti; exec sleep 60", vec!["waiti"]),
+        (frame, vec!["(0.100000) can0 0300FD01#0000000000000000"]),
+    ];
+    for (k, (text, said)) in texts.into_iter().enumerate() {
+        let path = script(&format!("never{k}.sh"), text);
+        let begun = Instant::now();
+        let mut station = open(&path).within(Duration::from_millis(1500));
+        let error = station
+            .start(1, 100, Command::Enable)
+            .expect_err("no answer");
+        assert!(error.to_string().contains("within 1.5s"), "{error}");
+        match error {
+            Error::TimedOut {
+                last_event,
+                last_answers,
+                ..
+            } => {
+                assert_eq!(last_event, "start 1 100 enable");
+                assert_eq!(last_answers, said);
+            }
+            other => panic!("{other:?}"),
+        }
+        assert!(matches!(station.fresh(), Err(Error::Over { .. })));
+        drop(station);
+        assert!(begun.elapsed() < Duration::from_secs(30));
+    }
+}
+
+/// Bytes that go on and on don't put the limit off.
+#[test]
+fn a_program_that_says_no_end() {
+    let _alone = alone();
+    let path = script("no_end.sh", "while true; do echo motor; sleep 0.05; done");
+    let mut station = open(&path).within(Duration::from_millis(500));
+    assert!(matches!(station.look(1), Err(Error::TimedOut { .. })));
+}
+
+#[test]
+fn a_program_that_does_not_end() {
+    let _alone = alone();
+    let path = script("no_finish.sh", "exec sleep 60");
+    let begun = Instant::now();
+    let station = open(&path).within(Duration::from_millis(500));
+    assert!(matches!(station.finish(), Err(Error::TimedOut { .. })));
+    drop(open(&path));
+    assert!(begun.elapsed() < Duration::from_secs(30));
 }
 
 #[test]

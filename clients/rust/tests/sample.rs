@@ -5,6 +5,7 @@ mod common;
 use combradish_client::{Answer, Event, Recording, Station};
 use common::{event_lines, program, sample, scratch};
 use std::fs::{self, File};
+use std::process::Command;
 
 fn typed(line: &str) -> Event {
     Event::parse(line).unwrap_or_else(|| panic!("{line:?} is no typed event"))
@@ -47,6 +48,22 @@ fn every_line_is_a_typed_event() {
     }
     let (few, all) = (other.len(), lines.len());
     assert!(few * 20 < all, "{few} of {all} lines print otherwise");
+}
+
+/// A recording that ends within a line, as where its writer died: the half line isn't run.
+#[test]
+fn a_torn_recording_ends_with_an_error() {
+    let session = "register 1 0xFD rs-00 0 100\nstart 1 100 get_parameter 0x7019 50";
+    for end in ["", "00", " fly"] {
+        let path = scratch("torn.session");
+        fs::write(&path, format!("{session}{end}")).expect("a session");
+        let output = Command::new(program())
+            .stdin(File::open(&path).expect("the session"))
+            .output()
+            .expect("replay runs");
+        let said = String::from_utf8(output.stdout).expect("text");
+        assert_eq!(said, "ok\nerror the input ends within a line\n");
+    }
 }
 
 #[test]

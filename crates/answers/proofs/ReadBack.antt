@@ -5,7 +5,7 @@ use mathlib.Core.Bool.{Bool, true, false, _&&_}
 use mathlib.Core.List.{List, [], _∷_, _++_, append-nil, append-assoc}
 use native.Mathlib.Omega.{arith}
 use native.Mathlib.Nat.{not-suc-le-zero}
-use lib.Dec.{T, eqb, eqb→eq}
+use lib.Dec.{T, eqb, ltb, eqb→eq, ltb→lt}
 use lib.Ieee.Fits.{and-l, and-r}
 use lib.ListN.{length, take, drop, getD, length-append}
 use lib.Seq.{take-at, drop-at, getD-at}
@@ -20,11 +20,11 @@ use Rattle.text.specs.declared.numbers.Num.the-variants.{Value}
 use Rattle.text.specs.Ascii.{ascii}
 use Rattle.text.specs.Numbers.{digitsIn, readFrom}
 use Rattle.text.specs.Put.{glyphOf, digitsText, decimalIn}
-use Rattle.text.specs.Words.{wordCount, wordAt, whichOf, sameBytes}
+use Rattle.text.specs.Words.{wordCount, wordAt, sameBytes}
 use Rattle.text.proofs.Reading.{some}
 use Rattle.text.proofs.ReadBack.{glyph-range, read-glyph, read-digits, digits-length, digits-back, decimal-some, decimal-back, index-past, free-append, digits-free, decimal-free, word-first, word-later, word-only, words-past}
 use Rattle.session.specs.Events.{payload, canFrame, hands}
-use Rattle.session.specs.Table.{commands, placeOf}
+use Rattle.session.specs.Table.{commands, placeOf, rowFrom, shapeAt, rowAt}
 use Rattle.session.specs.Commands.{commandOf, startedBy, started}
 use Rattle.session.specs.Heard.{millisecondsOf, stampIn, stampOf, shiftedBy, dataOf, dataFrame, loggedFrame, heardIn}
 use Rattle.session.specs.Lines.{readLine}
@@ -35,11 +35,23 @@ use Rattle.answers.proofs.Lengths.{frame-short}
 
 -- ---- commands
 
+-- at a place of the table begins row k, with the shape that follows its name
+abbrev Begins : ℕ → ℕ → Type 0
+Begins k at = (at < length commands) × (rowAt commands at ≡ k) × (shapeAt commands at ≡ wordAt commands (2 * k + 1))
+
 -- the name is found in its row, and a command of that row has the name
 abbrev Row : Command → List ℕ → Type 0
 Row c v =
-    (placeOf commands (commandText c) ≡ 2 * commandPlace c)
+    Begins (commandPlace c) (placeOf commands (commandText c))
     × (commandPlace (commandOf (commandPlace c) v) ≡ commandPlace c)
+
+same-list : (a b : List ℕ) → T (sameBytes a b) → a ≡ b
+unfolding sameBytes
+same-list [] [] t = refl
+same-list [] (y ∷ b) t = absurd t
+same-list (x ∷ a) [] t = absurd t
+same-list (x ∷ a) (y ∷ b) t =
+    rw (eqb→eq x y (and-l (eqb x y) (sameBytes a b) t), same-list a b (and-r (eqb x y) (sameBytes a b) t))
 
 -- a test at each number below n
 abbrev below : (ℕ → Bool) → ℕ → Bool
@@ -54,8 +66,19 @@ at-each p (suc n) t k h = go (eqb k n) refl (at-each p n (and-r (p n) (below p n
     go true e before = subst (λ (m : ℕ). T (p m)) (sym (eqb-true k n e)) (and-l (p n) (below p n) t)
     go false e before = let apart : k ≡ n → ⊥ = eqb-false k n e in before (omega arith)
 
+isRow : ℕ → ℕ → Bool
+isRow k at = eqb (rowAt commands at) k && sameBytes (shapeAt commands at) (wordAt commands (2 * k + 1))
+
+begins : (k at : ℕ) → T (ltb at (length commands) && isRow k at) → Begins k at
+unfolding isRow
+begins k at t =
+    let r = and-r (ltb at (length commands)) (isRow k at) t in
+    let n = eqb (rowAt commands at) k in
+    let s = sameBytes (shapeAt commands at) (wordAt commands (2 * k + 1)) in
+    (ltb→lt _ _ (and-l (ltb at (length commands)) (isRow k at) t), eqb→eq _ _ (and-l n s r), same-list _ _ (and-r n s r))
+
 isFound : ℕ → Bool
-isFound k = eqb (placeOf commands (wordAt commands (2 * k))) (2 * k)
+isFound k = ltb (placeOf commands (wordAt commands (2 * k))) (length commands) && isRow k (placeOf commands (wordAt commands (2 * k)))
 
 isKept : List ℕ → ℕ → Bool
 isKept v k = eqb (commandPlace (commandOf k v)) k
@@ -64,7 +87,7 @@ abbrev rows : ℕ
 rows = length (variants the-type)
 
 each-found : T (below isFound rows)
-unfolding isFound placeOf whichOf wordCount wordAt sameBytes indexOf indexAfter
+unfolding isFound isRow placeOf rowFrom wordCount wordAt sameBytes indexOf indexAfter
 each-found = tt
 
 each-kept : (v : List ℕ) → T (below (isKept v) rows)
@@ -76,15 +99,15 @@ unfolding isFound isKept
 row c v =
     let k = commandPlace c in
     let h : k < rows = tag-small the-type c in
-    (eqb→eq _ _ (at-each isFound rows each-found k h), eqb→eq _ _ (at-each (isKept v) rows (each-kept v) k h))
+    (begins k _ (at-each isFound rows each-found k h), eqb→eq _ _ (at-each (isKept v) rows (each-kept v) k h))
 
 -- a start with the name that is printed for a command is read as its row says
 pub command-read-back : (c : Command) (line : List ℕ) → wordAt line 3 ≡ commandText c
     → started line ≡ startedBy line (wordAt commands (2 * commandPlace c + 1)) (commandPlace c)
 unfolding started
 command-read-back c line e =
-    let half : 2 * commandPlace c / 2 ≡ commandPlace c = omega arith in
-    rw (e, row c [] .0, ne-eqb (2 * commandPlace c % 2) 1 (λ h. omega arith), half)
+    let r = row c [] .0 in
+    rw (e, ne-eqb (placeOf commands (commandText c)) (length commands) (λ h. omega (arith, h, r .0)), r .1, r .2)
 
 -- and the command that it starts is printed by the same name
 pub same-name : (c : Command) (v : List ℕ) → commandText (commandOf (commandPlace c) v) ≡ commandText c

@@ -68,16 +68,16 @@ found k id h e =
 
 -- ---- no other id is listed
 
-idsOf : List ℕ → List ℕ
+unfoldable pub idsOf : List ℕ → List ℕ
 idsOf [] = []
 idsOf (row ∷ rest) = row / 256 ∷ idsOf rest
 
-not-among : (table : List ℕ) (id : ℕ) → ((k : ℕ) → k < length table → getD table k 0 / 256 ≡ id → ⊥) → among id (idsOf table) ≡ false
+pub not-among : (table : List ℕ) (id : ℕ) → ((k : ℕ) → k < length table → getD table k 0 / 256 ≡ id → ⊥) → among id (idsOf table) ≡ false
 unfolding among idsOf
 not-among [] id h = refl
 not-among (row ∷ rest) id h = rw (ne-eqb (row / 256) id (h 0 (zero-lt-suc (length rest)))) (not-among rest id (λ k l e. h (suc k) (suc-le-suc l) e))
 
-ids-are : idsOf rows ≡ listedIds
+pub ids-are : idsOf rows ≡ listedIds
 unfolding idsOf listedIds
 ids-are = refl
 

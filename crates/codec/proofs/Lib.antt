@@ -8,6 +8,7 @@ pub mod Cut
 pub mod Bytes
 pub mod TwosComplement
 pub mod KindTable
+pub mod NameTable
 pub mod RefusalNumbers
 pub mod FlagTable
 pub mod WordTrips

@@ -1,12 +1,11 @@
 -- Ids joined and split, values encoded and decoded: each way back. Assumes nothing.
 use mathlib.Core.Path.{_≡_, refl, sym, ap, _∙_}
-use mathlib.Core.Bool.{Bool, true, false, cond}
+use mathlib.Core.Bool.{Bool, true, false, not, cond}
 use mathlib.Core.List.{List}
 use Prim.Native.Nat.{ℕ, _*_, _%_, _^_, _<_}
 use native.Mathlib.Nat.{mod-eq-of-lt}
 use native.Mathlib.Omega.{arith}
 use lib.Dec.{T, eqb, eqb→eq}
-use lib.Signed.{mag}
 use mir.Facts.{toZ-ofZ, ofZ-toZ}
 use mir.Syntax.{w8}
 use Rattle.codec.proofs.KindTable.{infoNumber, named}
@@ -21,7 +20,7 @@ use Rattle.codec.specs.declared.registers.ParameterInfo.{ParameterInfo}
 use Rattle.codec.specs.declared.registers.ParameterInfo.the-variants.{Listed, Unlisted}
 use Rattle.codec.specs.Ids.{buildExtId, extIdParts, typeOf, extraOf, nodeOf}
 use Rattle.codec.specs.Kinds.{kindNumber, codedAs, parameterInfo}
-use Rattle.codec.specs.Values.{le32, widthOf, valueAs, kindIn, rawOf, encodedBy, encodeParameterValue, encodeParameterWrite, decodeReadParameterValue}
+use Rattle.codec.specs.Values.{le32, widthOf, valueAs, kindIn, rawOf, InRange, encodedBy, encodeParameterValue, encodeParameterWrite, decodeReadParameterValue}
 
 -- ---- ids
 
@@ -39,14 +38,6 @@ pub join-split : (id : ℕ) → buildExtId (typeOf id) (extraOf id) (nodeOf id) 
 join-split id = omega arith
 
 -- ---- values: one fact over kinds and widths for each direction
-
--- what the types of the cases hold
-abbrev pub InRange : ParameterValue → Type 0
-InRange (I8 v) = mag v < 128
-InRange (U8 v) = v < 2 ^ 8
-InRange (U16 v) = v < 2 ^ 16
-InRange (U32 v) = v < 2 ^ 32
-InRange (F32 w) = w .bits < 2 ^ 32
 
 -- decode after encode: the value with its kind and bits
 pub value-raw : (v : ParameterValue) → InRange v → valueAs (kindIn v) (rawOf v) ≡ v
@@ -89,7 +80,7 @@ accepted Unlisted v raw h =
     absurd (omega arith)
 accepted (Listed kind) v raw h = go (eqb (kindNumber kind) (kindNumber (kindIn v))) (eqb→eq (kindNumber kind) (kindNumber (kindIn v))) h
   where
-    go : (b : Bool) → (T b → kindNumber kind ≡ kindNumber (kindIn v)) → cond b (Raw (rawOf v)) (Refused KindDiffers) ≡ Raw raw → (Listed kind ≡ Listed (kindIn v)) × (rawOf v ≡ raw)
+    go : (b : Bool) → (T b → kindNumber kind ≡ kindNumber (kindIn v)) → cond (not b) (Refused KindDiffers) (Raw (rawOf v)) ≡ Raw raw → (Listed kind ≡ Listed (kindIn v)) × (rawOf v ≡ raw)
     go true f e = (kind-by-number kind (kindIn v) (f tt), cc)
     go false f e =
         let z : _≡_ {A = ℕ} 0 1 = cc in

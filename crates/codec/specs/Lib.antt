@@ -1,6 +1,9 @@
 pub mod Refusals
+pub mod Numbers
 pub mod Ids
 pub mod Kinds
+pub mod Names
+pub mod ParameterNames
 pub mod Modes
 pub mod Words
 pub mod Values

@@ -3,8 +3,9 @@ use Prim.Native.Nat.{ℕ}
 use mathlib.Core.Bool.{Bool, true, false, cond, _&&_}
 use mathlib.Core.List.{List, [], _∷_}
 use lib.Dec.{eqb}
+use lib.IntN.{ℤ, pos}
+use lib.ListN.{getD}
 use lib.Ieee.{Float, binary32, ofBits}
-use Rattle.codec.specs.declared.error.Refusal.the-variants.{UnknownModel}
 use Rattle.codec.specs.declared.model.Model.{Model}
 use Rattle.codec.specs.declared.model.Model.the-variants.{Rs00, Rs01, Rs02, Rs03, Rs04, Rs05, Rs05el, Rs06}
 use Rattle.codec.specs.declared.model.Limits.{Limits}
@@ -12,6 +13,8 @@ use Rattle.codec.specs.declared.model.ModelNamed.{ModelNamed}
 use Rattle.codec.specs.declared.model.ModelNamed.the-variants as named
 use Rattle.codec.specs.declared.model.ModelLimits.{ModelLimits}
 use Rattle.codec.specs.declared.model.ModelLimits.the-variants as found
+use Rattle.codec.specs.Refusals.{numberOf}
+use Rattle.codec.specs.Numbers.{naturalAt, refusalOf, answerOf}
 use Rattle.codec.specs.Motion.{whole}
 
 unfoldable pub sameBytes : List ℕ → List ℕ → Bool
@@ -45,6 +48,24 @@ allModels = Rs00 ∷ Rs01 ∷ Rs02 ∷ Rs03 ∷ Rs04 ∷ Rs05 ∷ Rs05el ∷ Rs0
 abbrev pub modelNamed : List ℕ → ModelNamed
 modelNamed name = namedAmong name allModels
 
+-- its number and values: 0 and the model's place, or 3, model unknown
+abbrev pub modelPlace : Model → ℕ
+modelPlace Rs00 = 0
+modelPlace Rs01 = 1
+modelPlace Rs02 = 2
+modelPlace Rs03 = 3
+modelPlace Rs04 = 4
+modelPlace Rs05 = 5
+modelPlace Rs05el = 6
+modelPlace Rs06 = 7
+
+abbrev pub modelNamedRow : ModelNamed → ℕ × List ℤ
+modelNamedRow (named.Known m) = (0, pos (modelPlace m) ∷ [])
+modelNamedRow named.Unknown = (3, [])
+
+abbrev pub modelNamedOf : ℕ → List ℤ → ModelNamed
+modelNamedOf n values = answerOf (named.Known (getD allModels (naturalAt values 0) Rs00)) (λ r. named.Unknown) n values
+
 -- ---- limits per model: velocity, torque, kp and kd. The position's is 4π, 41490FDB, for each
 
 abbrev pub limitsTo : Float → Float → Float → Float → Limits
@@ -64,7 +85,12 @@ limitsOf Rs06 = limitsTo (whole 50) (whole 36) (whole 5000) (whole 100)
 -- an unknown model is 3
 abbrev pub limitsBy : ModelNamed → ModelLimits
 limitsBy (named.Known m) = found.Known (limitsOf m)
-limitsBy named.Unknown = found.Refused UnknownModel
+limitsBy named.Unknown = found.Refused (refusalOf 3 [])
+
+-- its number; the values of 0 are the limits
+abbrev pub modelLimitsNumber : ModelLimits → ℕ
+modelLimitsNumber (found.Known limits) = 0
+modelLimitsNumber (found.Refused r) = numberOf r
 
 abbrev pub modelLimits : List ℕ → ModelLimits
 modelLimits name = limitsBy (modelNamed name)

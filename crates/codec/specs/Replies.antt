@@ -4,7 +4,6 @@ use mathlib.Core.Bool.{Bool, cond, _&&_}
 use mathlib.Core.List.{List, [], _∷_}
 use lib.Dec.{eqb, ltb}
 use lib.ListN.{getD}
-use Rattle.codec.specs.declared.error.Refusal.the-variants.{UnknownProtocol, NotPingReply, NotVersionReply}
 use Rattle.codec.specs.declared.error.Checked.{Checked}
 use Rattle.codec.specs.declared.error.Checked.the-variants.{Passed, Refused}
 use Rattle.codec.specs.declared.protocol.IdParts.{IdParts}
@@ -13,6 +12,7 @@ use Rattle.codec.specs.declared.replies.PingReply.{PingReply}
 use Rattle.codec.specs.declared.replies.PingAnswer.{PingAnswer}
 use Rattle.codec.specs.declared.replies.VersionReply.{VersionReply}
 use Rattle.codec.specs.declared.replies.VersionAnswer.{VersionAnswer}
+use Rattle.codec.specs.Numbers.{checkedOf, answeredBy}
 use Rattle.codec.specs.Ids.{typeOf, extraOf, extIdParts}
 
 abbrev pub zeros : List ℕ
@@ -20,7 +20,7 @@ zeros = 0 ∷ 0 ∷ 0 ∷ 0 ∷ 0 ∷ 0 ∷ 0 ∷ 0 ∷ []
 
 -- 12: protocol not 0..2
 abbrev pub validateProtocolCmd : ℕ → Checked
-validateProtocolCmd p = cond (ltb 2 p) (Refused UnknownProtocol) Passed
+validateProtocolCmd p = answeredBy (λ n. checkedOf n []) ((ltb 2 p, 12) ∷ [])
 
 abbrev pub setProtocolBy : Checked → ℕ → SetProtocol
 setProtocolBy Passed p = record { said = Passed; payload = 1 ∷ 2 ∷ 3 ∷ 4 ∷ 5 ∷ 6 ∷ p ∷ 0 ∷ [] }
@@ -44,7 +44,7 @@ versionReply id payload =
 
 -- 23: not a version reply
 abbrev pub notVersionReply : VersionAnswer
-notVersionReply = record { said = Refused NotVersionReply; reply = record { «device_id» = 0; version = 0 ∷ 0 ∷ 0 ∷ 0 ∷ [] } }
+notVersionReply = record { said = checkedOf 23 []; reply = record { «device_id» = 0; version = 0 ∷ 0 ∷ 0 ∷ 0 ∷ [] } }
 
 abbrev pub passedVersion : VersionReply → VersionAnswer
 passedVersion reply = record { said = Passed; reply = reply }
@@ -60,7 +60,7 @@ pingReply p payload = record { «device_id» = p .«extra_data» % 256; «respon
 
 -- 22: not a ping reply
 abbrev pub notPingReply : PingAnswer
-notPingReply = record { said = Refused NotPingReply; reply = record { «device_id» = 0; «responder_id» = 0; payload = zeros } }
+notPingReply = record { said = checkedOf 22 []; reply = record { «device_id» = 0; «responder_id» = 0; payload = zeros } }
 
 abbrev pub passedPing : PingReply → PingAnswer
 passedPing reply = record { said = Passed; reply = reply }

@@ -1,12 +1,13 @@
 -- Parameter values: how each kind stands in four bytes, and the payloads that carry them. Definitions only.
-use Prim.Native.Nat.{ℕ, _+_, _*_, _/_, _%_}
-use mathlib.Core.Bool.{cond}
+use Prim.Native.Nat.{ℕ, _+_, _*_, _/_, _%_, _^_, _<_}
+use mathlib.Core.Bool.{Bool, true, false, not}
 use mathlib.Core.List.{List, [], _∷_}
 use lib.Dec.{eqb}
+use lib.IntN.{ℤ, pos}
 use lib.ListN.{getD}
+use lib.Signed.{mag}
 use mir.Syntax.{w8}
 use mir.Val.{ofZ, toZ}
-use Rattle.codec.specs.declared.error.Refusal.the-variants.{UnlistedParameter, KindDiffers}
 use Rattle.codec.specs.declared.registers.ParameterDataType.{ParameterDataType}
 use Rattle.codec.specs.declared.registers.ParameterDataType.the-variants.{Int8, UInt8, UInt16, UInt32, Float32}
 use Rattle.codec.specs.declared.registers.ParameterInfo.{ParameterInfo}
@@ -15,6 +16,8 @@ use Rattle.codec.specs.declared.protocol.ParameterValue.{ParameterValue}
 use Rattle.codec.specs.declared.protocol.ParameterValue.the-variants.{I8, U8, U16, U32, F32}
 use Rattle.codec.specs.declared.protocol.EncodedValue.{EncodedValue}
 use Rattle.codec.specs.declared.protocol.EncodedValue.the-variants.{Raw, Refused}
+use Rattle.codec.specs.Refusals.{numberOf, valuesOf}
+use Rattle.codec.specs.Numbers.{naturalAt, answerOf, answeredBy}
 use Rattle.codec.specs.Kinds.{kindNumber, parameterInfo}
 
 -- the number that four bytes stand for, the lowest at i
@@ -53,11 +56,38 @@ rawOf (U16 v) = v
 rawOf (U32 v) = v
 rawOf (F32 w) = w .bits
 
--- ---- writing: 10 where the id is unlisted, 11 where the kind differs
+-- what the types of the cases hold
+abbrev pub InRange : ParameterValue → Type 0
+InRange (I8 v) = mag v < 128
+InRange (U8 v) = v < 2 ^ 8
+InRange (U16 v) = v < 2 ^ 16
+InRange (U32 v) = v < 2 ^ 32
+InRange (F32 w) = w .bits < 2 ^ 32
+
+-- ---- writing
+
+-- an encoded value's number and values: 0 and its raw bytes, or the refusal's
+abbrev pub encodedRow : EncodedValue → ℕ × List ℤ
+encodedRow (Raw raw) = (0, pos raw ∷ [])
+encodedRow (Refused r) = (numberOf r, valuesOf r)
+
+abbrev pub encodedOf : ℕ → List ℤ → EncodedValue
+encodedOf n values = answerOf (Raw (naturalAt values 0)) Refused n values
+
+abbrev pub isUnlisted : ParameterInfo → Bool
+isUnlisted (Listed kind) = false
+isUnlisted Unlisted = true
+
+abbrev pub kindDiffers : ParameterInfo → ParameterValue → Bool
+kindDiffers (Listed kind) value = not (eqb (kindNumber kind) (kindNumber (kindIn value)))
+kindDiffers Unlisted value = true
+
+-- 10: written id unlisted; 11: kind differs
+abbrev pub encodeNumbers : ParameterInfo → ParameterValue → List (Bool × ℕ)
+encodeNumbers info value = (isUnlisted info, 10) ∷ (kindDiffers info value, 11) ∷ []
 
 abbrev pub encodedBy : ParameterInfo → ParameterValue → EncodedValue
-encodedBy (Listed kind) value = cond (eqb (kindNumber kind) (kindNumber (kindIn value))) (Raw (rawOf value)) (Refused KindDiffers)
-encodedBy Unlisted value = Refused UnlistedParameter
+encodedBy info value = answeredBy (λ n. encodedOf n (pos (rawOf value) ∷ [])) (encodeNumbers info value)
 
 abbrev pub encodeParameterValue : ℕ → ParameterValue → EncodedValue
 encodeParameterValue id value = encodedBy (parameterInfo id) value

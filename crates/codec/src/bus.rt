@@ -14,12 +14,12 @@ pub struct CanFrame {
 pub(crate) fn join16(high: u8, low: u8) -> u16
     ensures { λ r. ⌜ r ≡ high * 256 + low ⌝ }
 {
-    (high as u16) * 256 + (low as u16)
+    ((high as u16) << 8) | (low as u16)
 }
 
 // Four bytes as a number, the lowest first.
 pub(crate) fn join32(b0: u8, b1: u8, b2: u8, b3: u8) -> u32
     ensures { λ r. ⌜ r ≡ b0 + b1 * 256 + b2 * 65536 + b3 * 16777216 ⌝ }
 {
-    (b0 as u32) + (b1 as u32) * 256 + (b2 as u32) * 65536 + (b3 as u32) * 16777216
+    ((b3 as u32) << 24) | ((b2 as u32) << 16) | ((b1 as u32) << 8) | (b0 as u32)
 }

@@ -6,6 +6,7 @@ pub mod error;
 pub mod faults;
 pub mod model;
 pub mod motion;
+pub mod names;
 pub mod protocol;
 pub mod registers;
 pub mod replies;

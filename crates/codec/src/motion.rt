@@ -71,13 +71,13 @@ fn raw_payload(position: u16, velocity: u16, kp: u16, kd: u16) -> [u8; 8]
 {
     [
         (position >> 8) as u8,
-        (position % 256) as u8,
+        (position & 0xFF) as u8,
         (velocity >> 8) as u8,
-        (velocity % 256) as u8,
+        (velocity & 0xFF) as u8,
         (kp >> 8) as u8,
-        (kp % 256) as u8,
+        (kp & 0xFF) as u8,
         (kd >> 8) as u8,
-        (kd % 256) as u8,
+        (kd & 0xFF) as u8,
     ]
 }
 

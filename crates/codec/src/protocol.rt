@@ -3,6 +3,8 @@
 use crate::bus::join32;
 use crate::error::Checked;
 use crate::error::Refusal;
+use crate::names::Name;
+use crate::names::name_in;
 use crate::registers::ParameterDataType;
 use crate::registers::ParameterInfo;
 use crate::registers::kind_number;
@@ -12,6 +14,7 @@ use crate::word::byte_of;
 use crate::word::signed_of;
 ghost use mathlib.Core.Path.{_≡_};
 ghost use Rattle.codec.specs.Ids.{buildExtId, extIdParts};
+ghost use Rattle.codec.specs.Names.{protocolName};
 ghost use Rattle.codec.specs.Values.{encodeParameterRead, encodeParameterWrite, valueAs, decodeReadParameterValue, kindIn, rawOf, encodeParameterValue};
 ghost use Rattle.codec.specs.Replies.{validateProtocolCmd, encodeSetProtocol};
 
@@ -64,6 +67,18 @@ pub fn validate_protocol_cmd(protocol_cmd: u8) -> Checked
         return Checked::Refused(Refusal::UnknownProtocol);
     }
     Checked::Passed
+}
+
+// The name of a protocol command.
+pub fn protocol_name(protocol_cmd: u8) -> Name
+    ensures { λ r. ⌜ r ≡ protocolName «protocol_cmd» ⌝ }
+{
+    match protocol_cmd {
+        PROTOCOL_PRIVATE => name_in(*b"private         "),
+        PROTOCOL_CANOPEN => name_in(*b"canopen         "),
+        PROTOCOL_MIT => name_in(*b"mit             "),
+        _ => name_in(*b"unknown         "),
+    }
 }
 
 // A payload, or zeros beside the refusal.
@@ -132,7 +147,7 @@ pub fn encode_parameter_read(param_id: u16) -> [u8; 8]
     ensures { λ r. ⌜ r ≡ encodeParameterRead «param_id» ⌝ }
 {
     [
-        (param_id % 256) as u8,
+        (param_id & 0xFF) as u8,
         (param_id >> 8) as u8,
         0,
         0,
@@ -148,14 +163,14 @@ pub fn encode_parameter_write(param_id: u16, raw_value: u32) -> [u8; 8]
     ensures { λ r. ⌜ r ≡ encodeParameterWrite «param_id» «raw_value» ⌝ }
 {
     [
-        (param_id % 256) as u8,
+        (param_id & 0xFF) as u8,
         (param_id >> 8) as u8,
         0,
         0,
-        (raw_value % 256) as u8,
-        (raw_value / 256 % 256) as u8,
-        (raw_value / 65536 % 256) as u8,
-        (raw_value / 16777216) as u8,
+        (raw_value & 0xFF) as u8,
+        ((raw_value >> 8) & 0xFF) as u8,
+        ((raw_value >> 16) & 0xFF) as u8,
+        (raw_value >> 24) as u8,
     ]
 }
 
@@ -164,9 +179,9 @@ fn value_as(kind: ParameterDataType, raw: u32) -> ParameterValue
     ensures { λ r. ⌜ r ≡ valueAs kind raw ⌝ }
 {
     match kind {
-        ParameterDataType::Int8 => ParameterValue::I8(signed_of((raw % 256) as u8)),
-        ParameterDataType::UInt8 => ParameterValue::U8((raw % 256) as u8),
-        ParameterDataType::UInt16 => ParameterValue::U16((raw % 65536) as u16),
+        ParameterDataType::Int8 => ParameterValue::I8(signed_of((raw & 0xFF) as u8)),
+        ParameterDataType::UInt8 => ParameterValue::U8((raw & 0xFF) as u8),
+        ParameterDataType::UInt16 => ParameterValue::U16((raw & 0xFFFF) as u16),
         ParameterDataType::UInt32 => ParameterValue::U32(raw),
         ParameterDataType::Float32 => ParameterValue::F32(Word { bits: raw }),
     }

@@ -1,8 +1,11 @@
-// The parameters: their ids and kinds, and the run modes that parameter 7005 holds.
+// The parameters: their ids, kinds and names, and the run modes that parameter 7005 holds.
 use crate::error::Refusal;
+use crate::names::Name;
+use crate::names::name_in;
 ghost use mathlib.Core.Path.{_≡_};
 ghost use Rattle.codec.specs.Kinds.{parameterInfo, kindNumber, codedAs};
 ghost use Rattle.codec.specs.Modes.{controlModeFromRaw, controlModeNumber};
+ghost use Rattle.codec.specs.ParameterNames.{parameterName, nameAt};
 
 pub enum ParameterDataType {
     Int8,
@@ -12,31 +15,75 @@ pub enum ParameterDataType {
     Float32,
 }
 
-// What is known of a parameter id: the Rust's `Option<&ParameterInfo>`, without names.
+// What is known of a parameter id: the Rust's `Option<&ParameterInfo>`, without the name, which `parameter_name` gives.
 pub enum ParameterInfo {
     Listed(ParameterDataType),
     Unlisted,
 }
 
-// The ids that operations name.
+// The ids that the Rust names, by its names and in its order.
 pub struct ParameterId;
 
 impl ParameterId {
+    pub const MECHANICAL_OFFSET: u16 = 0x2005;
+
     pub const MODE: u16 = 0x7005;
 
+    pub const IQ_TARGET: u16 = 0x7006;
+
     pub const VELOCITY_TARGET: u16 = 0x700A;
+
+    pub const TORQUE_LIMIT: u16 = 0x700B;
+
+    pub const CURRENT_KP: u16 = 0x7010;
+
+    pub const CURRENT_KI: u16 = 0x7011;
+
+    pub const CURRENT_FILTER_GAIN: u16 = 0x7014;
 
     pub const POSITION_TARGET: u16 = 0x7016;
 
     pub const VELOCITY_LIMIT: u16 = 0x7017;
 
+    pub const CURRENT_LIMIT: u16 = 0x7018;
+
     pub const MECHANICAL_POSITION: u16 = 0x7019;
+
+    pub const IQ_FILTERED: u16 = 0x701A;
+
+    pub const MECHANICAL_VELOCITY: u16 = 0x701B;
+
+    pub const VBUS: u16 = 0x701C;
+
+    pub const POSITION_KP: u16 = 0x701E;
+
+    pub const VELOCITY_KP: u16 = 0x701F;
+
+    pub const VELOCITY_KI: u16 = 0x7020;
+
+    pub const VELOCITY_FILTER_GAIN: u16 = 0x7021;
+
+    pub const VELOCITY_ACCELERATION_TARGET: u16 = 0x7022;
 
     pub const PP_VELOCITY_MAX: u16 = 0x7024;
 
     pub const PP_ACCELERATION_TARGET: u16 = 0x7025;
 
+    pub const EPSCAN_TIME: u16 = 0x7026;
+
+    pub const CAN_TIMEOUT: u16 = 0x7028;
+
     pub const ZERO_STATE: u16 = 0x7029;
+
+    pub const DAMPER: u16 = 0x702A;
+
+    pub const ADD_OFFSET: u16 = 0x702B;
+
+    pub const ALVEOLOUS_OPEN: u16 = 0x702C;
+
+    pub const IQ_TEST: u16 = 0x702D;
+
+    pub const DCC_SET: u16 = 0x702E;
 
     pub const PROTOCOL_FLAG: u16 = 0x2022;
 }
@@ -108,6 +155,72 @@ const PARAMETER_TABLE: [u32; 62] = [
     0x702E_05,
 ];
 
+// The names of the listed parameters, 16 bytes a row, each name with spaces after it.
+const PARAMETER_NAMES: [u8; 992] = *b"\
+    echoPara1       \
+    echoPara2       \
+    echoPara3       \
+    echoPara4       \
+    echoFreHz       \
+    mechOffset      \
+    MechPos_init    \
+    limit_torque    \
+    I_FW_MAX        \
+    motor_baud      \
+    CAN_ID          \
+    CAN_MASTER      \
+    CAN_TIMEOUT     \
+    status3         \
+    status1         \
+    status6         \
+    cur_filt_gain   \
+    cur_kp          \
+    cur_ki          \
+    spd_kp          \
+    spd_ki          \
+    loc_kp          \
+    spd_filt_gain   \
+    limit_spd       \
+    limit_cur       \
+    loc_ref_filt_gai\
+    limit_loc       \
+    position_offset \
+    chasu_angle_offs\
+    spd_step_value  \
+    vol_max         \
+    acc_set         \
+    protocol_1      \
+    run_mode        \
+    iq_ref          \
+    spd_ref         \
+    limit_torque    \
+    cur_kp          \
+    cur_ki          \
+    cur_filter_gain \
+    loc_ref         \
+    limit_spd       \
+    limit_cur       \
+    mechPos         \
+    iqf             \
+    mechVel         \
+    VBUS            \
+    loc_kp          \
+    spd_kp          \
+    spd_ki          \
+    spd_filter_gain \
+    acc_rad         \
+    vel_max         \
+    acc_set         \
+    EPScan_time     \
+    canTimeout      \
+    zero_sta        \
+    damper          \
+    add_offset      \
+    alveolous_open  \
+    iq_test         \
+    dcc_set         \
+    ";
+
 // A number for each kind, by which two kinds are compared.
 pub(crate) fn kind_number(kind: ParameterDataType) -> u32
     ensures { λ r. ⌜ r ≡ kindNumber kind ⌝ }
@@ -152,12 +265,57 @@ pub fn parameter_info(id: u16) -> ParameterInfo
     let mut i: usize = 0;
     while i < 62 {
         let row = table[i];
-        if row / 256 == wanted {
-            return coded_as(row % 256);
+        if row >> 8 == wanted {
+            return coded_as(row & 0xFF);
         }
         i += 1;
     }
     ParameterInfo::Unlisted
+}
+
+// The name in row `place`; one of no byte past the last row.
+fn name_at(place: usize) -> Name
+    ensures { λ r. ⌜ r ≡ nameAt place ⌝ }
+{
+    if 62 <= place {
+        return name_in([b' '; 16]);
+    }
+    let names = PARAMETER_NAMES;
+    let at = place * 16;
+    name_in([
+        names[at],
+        names[at + 1],
+        names[at + 2],
+        names[at + 3],
+        names[at + 4],
+        names[at + 5],
+        names[at + 6],
+        names[at + 7],
+        names[at + 8],
+        names[at + 9],
+        names[at + 10],
+        names[at + 11],
+        names[at + 12],
+        names[at + 13],
+        names[at + 14],
+        names[at + 15],
+    ])
+}
+
+// The name of a parameter; one of no byte if it is unlisted.
+pub fn parameter_name(id: u16) -> Name
+    ensures { λ r. ⌜ r ≡ parameterName id ⌝ }
+{
+    let wanted = id as u32;
+    let table = PARAMETER_TABLE;
+    let mut i: usize = 0;
+    while i < 62 {
+        if table[i] >> 8 == wanted {
+            return name_at(i);
+        }
+        i += 1;
+    }
+    name_at(i)
 }
 
 pub enum ControlMode {

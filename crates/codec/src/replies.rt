@@ -32,6 +32,8 @@ pub struct VersionAnswer {
 
 pub const VERSION_REQUEST_MARKER: u8 = 0xC4;
 
+pub const VERSION_REPLY_SIGNATURE: [u8; 3] = [0x00, 0xC4, 0x56];
+
 // The payload that, in a type 4 frame, asks for the firmware's version.
 pub fn encode_version_request() -> [u8; 8]
     ensures { λ r. ⌜ r ≡ encodeVersionRequest ⌝ }
@@ -39,7 +41,7 @@ pub fn encode_version_request() -> [u8; 8]
     [0, VERSION_REQUEST_MARKER, 0, 0, 0, 0, 0, 0]
 }
 
-// Whether a frame is a version reply: type 2, and a payload that begins 00 C4 56.
+// Whether a frame is a version reply: type 2, and a payload that begins with the signature.
 pub fn is_version_reply(arbitration_id: u32, payload: [u8; 8]) -> bool
     ensures { λ r. ⌜ r ≡ isVersionReply «arbitration_id» payload ⌝ }
 {
@@ -47,13 +49,14 @@ pub fn is_version_reply(arbitration_id: u32, payload: [u8; 8]) -> bool
     if parts.comm_type != CommunicationType::OPERATION_STATUS {
         return false;
     }
-    if payload[0] != 0x00 {
+    let signature = VERSION_REPLY_SIGNATURE;
+    if payload[0] != signature[0] {
         return false;
     }
-    if payload[1] != 0xC4 {
+    if payload[1] != signature[1] {
         return false;
     }
-    payload[2] == 0x56
+    payload[2] == signature[2]
 }
 
 // 23, beside a reply of zeros.
@@ -88,7 +91,7 @@ pub fn decode_version_reply(arbitration_id: u32, payload: [u8; 8]) -> VersionAns
     }
     let parts = ext_id_parts(arbitration_id);
     passed_version(VersionReply {
-        device_id: (parts.extra_data % 256) as u8,
+        device_id: (parts.extra_data & 0xFF) as u8,
         version: [payload[3], payload[4], payload[5], payload[6]],
     })
 }
@@ -122,7 +125,7 @@ pub fn ping_reply(parts: IdParts, payload: [u8; 8]) -> PingReply
     ensures { λ r. ⌜ r ≡ pingReply parts payload ⌝ }
 {
     PingReply {
-        device_id: (parts.extra_data % 256) as u8,
+        device_id: (parts.extra_data & 0xFF) as u8,
         responder_id: parts.node_id,
         payload,
     }

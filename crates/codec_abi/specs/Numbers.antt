@@ -29,7 +29,8 @@ use Rattle.codec.specs.declared.status.StatusFrame.{StatusFrame}
 use Rattle.codec.specs.Refusals.{numberOf}
 use Rattle.codec.specs.Kinds.{kindNumber}
 use Rattle.codec.specs.Modes.{controlModeNumber}
-use Rattle.codec.specs.Values.{valueAs, le32}
+use Rattle.codec.specs.Models.{modelLimitsNumber}
+use Rattle.codec.specs.Values.{valueAs, encodedRow, le32}
 use Rattle.codec.specs.Motion.{whole}
 use Rattle.codec_abi.specs.Packing.{refusalIn, flag}
 
@@ -58,8 +59,7 @@ abbrev pub typedValue : ℕ → ℕ → ParameterValue
 typedValue k bits = valueAs (kindNamed k) bits
 
 abbrev pub encodedRefusal : EncodedValue → ℕ
-encodedRefusal (encoded.Raw n) = 0
-encodedRefusal (encoded.Refused refusal) = numberOf refusal
+encodedRefusal answer = encodedRow answer .0
 
 abbrev pub encodedRaw : EncodedValue → ℕ
 encodedRaw (encoded.Raw n) = n
@@ -111,8 +111,7 @@ abbrev pub motionLimits : Float → Float → Float → Limits
 motionLimits p v t = allLimits p v t (whole 0) (whole 0)
 
 abbrev pub limitsRefusal : ModelLimits → ℕ
-limitsRefusal (found.Known limits) = 0
-limitsRefusal (found.Refused refusal) = numberOf refusal
+limitsRefusal answer = modelLimitsNumber answer
 
 abbrev pub limitsList : ModelLimits → List Float
 limitsList (found.Known limits) = limits .position ∷ limits .velocity ∷ limits .torque ∷ limits .kp ∷ limits .kd ∷ []

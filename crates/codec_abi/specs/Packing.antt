@@ -3,8 +3,7 @@ use Prim.Native.Nat.{ℕ, _+_, _*_, _/_, _%_, _^_}
 use mathlib.Core.Bool.{Bool, cond}
 use mathlib.Core.List.{List, [], _∷_}
 use Rattle.codec.specs.declared.error.Checked.{Checked}
-use Rattle.codec.specs.declared.error.Checked.the-variants.{Passed, Refused}
-use Rattle.codec.specs.Refusals.{numberOf}
+use Rattle.codec.specs.Numbers.{checkedRow}
 use Rattle.codec.specs.Values.{le32}
 
 -- the payload of a number, the lowest byte first
@@ -16,10 +15,16 @@ payloadOf n =
 abbrev pub packed : List ℕ → ℕ
 packed payload = le32 payload 0 + le32 payload 4 * 2 ^ 32
 
+-- the numbers of the first eight and the last eight of 16 bytes
+abbrev pub firstHalf : List ℕ → ℕ
+firstHalf bytes = le32 bytes 0 + le32 bytes 4 * 2 ^ 32
+
+abbrev pub secondHalf : List ℕ → ℕ
+secondHalf bytes = le32 bytes 8 + le32 bytes 12 * 2 ^ 32
+
 -- a refusal's number, 0 where there is none
 abbrev pub refusalIn : Checked → ℕ
-refusalIn Passed = 0
-refusalIn (Refused refusal) = numberOf refusal
+refusalIn said = checkedRow said .0
 
 -- what a flag adds to a word of flags
 abbrev pub flag : Bool → ℕ → ℕ

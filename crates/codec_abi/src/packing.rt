@@ -2,7 +2,7 @@
 use codec::error::Checked;
 ghost use mathlib.Core.Path.{_≡_};
 ghost use Prim.Native.Nat.{_+_, _*_, _≤_};
-ghost use Rattle.codec_abi.specs.Packing.{payloadOf, packed, refusalIn, flag};
+ghost use Rattle.codec_abi.specs.Packing.{payloadOf, packed, firstHalf, secondHalf, refusalIn, flag};
 
 // The eight bytes of a number, the lowest first.
 pub(crate) fn payload_of(n: u64) -> [u8; 8]
@@ -26,6 +26,24 @@ pub(crate) fn packed(payload: [u8; 8]) -> u64
 {
     let low = joined(payload[0], payload[1], payload[2], payload[3]);
     let high = joined(payload[4], payload[5], payload[6], payload[7]);
+    (low as u64) + (high as u64) * 0x1_0000_0000
+}
+
+// The number of the first eight of 16 bytes, the lowest first.
+pub(crate) fn first_half(bytes: [u8; 16]) -> u64
+    ensures { λ r. ⌜ r ≡ firstHalf bytes ⌝ }
+{
+    let low = joined(bytes[0], bytes[1], bytes[2], bytes[3]);
+    let high = joined(bytes[4], bytes[5], bytes[6], bytes[7]);
+    (low as u64) + (high as u64) * 0x1_0000_0000
+}
+
+// The number of the last eight.
+pub(crate) fn second_half(bytes: [u8; 16]) -> u64
+    ensures { λ r. ⌜ r ≡ secondHalf bytes ⌝ }
+{
+    let low = joined(bytes[8], bytes[9], bytes[10], bytes[11]);
+    let high = joined(bytes[12], bytes[13], bytes[14], bytes[15]);
     (low as u64) + (high as u64) * 0x1_0000_0000
 }
 

@@ -5,7 +5,7 @@ use mathlib.Core.Bool.{Bool, true, false, cond, not, _&&_, _||_}
 use mathlib.Core.List.{List, [], _∷_}
 use native.Mathlib.Omega.{arith}
 use lib.Dec.{eqb, ltb}
-use borrow.Author.Tests.{ltb-false}
+use borrow.Author.Tests.{ltb-false, le-ltb}
 use Rattle.codec.specs.declared.bus.CanFrame.{CanFrame}
 use Rattle.codec.specs.declared.error.Checked.{Checked}
 use Rattle.codec.specs.declared.error.Checked.the-variants as checked
@@ -20,16 +20,17 @@ use Rattle.motor.specs.declared.engine.operation.Phase.{Phase}
 use Rattle.motor.specs.declared.engine.operation.Phase.the-variants as phase
 use Rattle.motor.specs.declared.motor.State.{State}
 use Rattle.motor.specs.Limits.{latestTime, longestTimeout, mostDueSteps}
-use Rattle.motor.specs.Bounds.{LoneEvent, start, step, frame, other, after, afterAll, hasFrame, sends, passes, isDue, once, count, limitOf, GivenWithin, Given, Accepted, Bounds}
+use Rattle.motor.specs.Bounds.{LoneEvent, start, step, frame, other, afterEvent, afterEvents, hasFrame, sends, passes, isDue, once, count, mostFramesOf, GivenWithin, Given, isPausing, Accepted, Bounds}
 use Rattle.motor.specs.Calls.{isIdle, arguedOf, orElse, startSaid, stepSaid, sightOf, wanted}
 use Rattle.motor.specs.Lone.{Lone, LoneAnswered, loneNew, loneMoved, loneStartBy, loneStart, loneStepBy, loneStep, hears}
 use Rattle.motor.specs.engine.Operations.{beginsWith}
 use Rattle.motor.specs.Readings.{lookup, room}
-use Rattle.motor.specs.Receive.{acceptsFrame, isLate, countedAt, toldBy, isRead, readId, readStatus, frameSaid, stateAfter}
+use Rattle.motor.specs.Receive.{acceptsFrame, isOutOfTime, countedAt, toldBy, isRead, readId, readStatus, frameSaid, stateAfter}
 use Rattle.motor.specs.engine.Run.{advanced, begunBy}
 use Rattle.motor.proofs.Commands.{begins-paced, frames-within, limit-within, steps-within}
 use Rattle.motor.proofs.Measures.{by-test, nodeLeft, restLeft, phaseLeft, opLeft}
 use Rattle.motor.proofs.MovesBounded.{Moved, enter-moves, advance-moves}
+use Rattle.motor.proofs.Pauses.{pausesBy, late-pauses}
 
 -- ---- the moves of a start and of a step; a frame makes none
 
@@ -88,12 +89,12 @@ module _ (f d : ℕ) where
   start-spends : (l : Lone) (c : Command) (now : ℕ) (p : Phase) → isIdle p ≡ false → StartSpends l c now (startSaid (l .state .clock) p c now)
   start-spends l c now phase.Idle e = let z : _≡_ {A = ℕ} 0 1 = cc in absurd (omega arith)
   start-spends l c now (phase.Pausing k) e =
-      by-test (λ t x. StartSpends l c now (orElse x (arguedOf c))) (isLate (l .state .clock) now) (λ e. omega arith) (λ e. omega arith)
+      by-test (λ t x. StartSpends l c now (orElse x (arguedOf c))) (isOutOfTime (l .state .clock) now) (λ e. omega arith) (λ e. omega arith)
   start-spends l c now (phase.Waiting w) e =
-      by-test (λ t x. StartSpends l c now (orElse x (arguedOf c))) (isLate (l .state .clock) now) (λ e. omega arith) (λ e. omega arith)
+      by-test (λ t x. StartSpends l c now (orElse x (arguedOf c))) (isOutOfTime (l .state .clock) now) (λ e. omega arith) (λ e. omega arith)
 
   -- so with a step, refused or not
-  step-spends : (l : Lone) (now : ℕ) → isIdle (opOf l .phase) ≡ false → Spends l (after l (step now)) (sends l (step now)) (isDue l (step now))
+  step-spends : (l : Lone) (now : ℕ) → isIdle (opOf l .phase) ≡ false → Spends l (afterEvent l (step now)) (sends l (step now)) (isDue l (step now))
   step-spends l now i = go (stepSaid (l .state .clock) (opOf l .phase) now)
     where
       go : (said : Checked)
@@ -104,7 +105,7 @@ module _ (f d : ℕ) where
       go (checked.Refused r) = omega arith
 
   -- so with every event while an operation runs
-  spends : (l : Lone) (e : LoneEvent) → isIdle (opOf l .phase) ≡ false → Spends l (after l e) (sends l e) (isDue l e)
+  spends : (l : Lone) (e : LoneEvent) → isIdle (opOf l .phase) ≡ false → Spends l (afterEvent l e) (sends l e) (isDue l e)
   spends l (start c now) i = omega (arith, start-spends l c now (opOf l .phase) i)
   spends l (step now) i = step-spends l now i
   spends l (frame x now) i = omega (arith, ap (opLeft f d) (frame-keeps l x now))
@@ -112,11 +113,11 @@ module _ (f d : ℕ) where
 
 -- a number that falls with each event counted bounds the count
 count-below : (test : Lone → LoneEvent → Bool) (m : Lone → ℕ)
-    → ((l : Lone) (e : LoneEvent) → isIdle (opOf l .phase) ≡ false → m (after l e) + once (test l e) ≤ m l)
+    → ((l : Lone) (e : LoneEvent) → isIdle (opOf l .phase) ≡ false → m (afterEvent l e) + once (test l e) ≤ m l)
     → (l : Lone) (es : List LoneEvent) → count test l es ≤ m l
 count-below test m h l [] = omega arith
 count-below test m h l (e ∷ es) =
-    by-test (λ t n. n ≤ m l) (isIdle (opOf l .phase)) (λ i. omega arith) (λ i. omega (arith, h l e i, count-below test m h (after l e) es))
+    by-test (λ t n. n ≤ m l) (isIdle (opOf l .phase)) (λ i. omega arith) (λ i. omega (arith, h l e i, count-below test m h (afterEvent l e) es))
 
 -- ---- due times: the window is at most 60,000, and so is the rest of the wait
 
@@ -125,8 +126,8 @@ abbrev Timely : State → Type 0
 Timely s = (s .operation .window ≤ longestTimeout) × (s .operation .due ≤ s .clock + longestTimeout)
 
 -- a time that 7 doesn't refuse
-on-time : (clock now : ℕ) → isLate clock now ≡ false → clock ≤ now
-unfolding isLate
+on-time : (clock now : ℕ) → isOutOfTime clock now ≡ false → clock ≤ now
+unfolding isOutOfTime
 on-time clock now = go (ltb now clock) refl
   where
     go : (t : Bool) → ltb now clock ≡ t → (t || ltb latestTime now) ≡ false → clock ≤ now
@@ -136,7 +137,7 @@ on-time clock now = go (ltb now clock) refl
 -- nor does a step that passes come before the clock
 step-on-time : (clock : ℕ) (p : Phase) (now : ℕ) → stepSaid clock p now ≡ checked.Passed → clock ≤ now
 step-on-time clock p now =
-    by-test (λ t x. x ≡ checked.Passed → clock ≤ now) (isLate clock now)
+    by-test (λ t x. x ≡ checked.Passed → clock ≤ now) (isOutOfTime clock now)
     (λ e h. let z : _≡_ {A = ℕ} 0 1 = cc in absurd (omega arith))
     (λ e h. on-time clock now e)
 
@@ -167,18 +168,18 @@ unfolding hears stateAfter frameSaid toldBy countedAt among
 frame-timely l x now h =
     by-test (λ t r. Timely (stateAfter r (l .state) x now)) (not (acceptsFrame (l .state .«motor_id») x)) (λ e. h)
     (λ e.
-    by-test (λ t r. Timely (stateAfter r (l .state) x now)) (isLate (l .state .clock) now) (λ e. h)
+    by-test (λ t r. Timely (stateAfter r (l .state) x now)) (isOutOfTime (l .state .clock) now) (λ e. h)
     (λ e.
     let later : Timely (countedAt (l .state) now) = (h .0, omega (arith, h .1, on-time (l .state .clock) now e)) in
     by-test (λ t r. Timely (stateAfter r (l .state) x now)) (isRead x && not (eqb (readStatus x) 0)) (λ e. later)
     (λ e. by-test (λ t r. Timely (stateAfter r (l .state) x now)) (isRead x && not (room (readId x) (l .readings))) (λ e. later) (λ e. later))))
 
 -- whatever comes
-timely : (l : Lone) (es : List LoneEvent) → Timely (l .state) → Timely (afterAll l es .state)
+timely : (l : Lone) (es : List LoneEvent) → Timely (l .state) → Timely (afterEvents l es .state)
 timely l [] h = h
-timely l (start c now ∷ es) h = timely (after l (start c now)) es (start-timely l c now h .1)
-timely l (step now ∷ es) h = timely (after l (step now)) es (step-timely l now h .1)
-timely l (frame x now ∷ es) h = timely (after l (frame x now)) es (frame-timely l x now h)
+timely l (start c now ∷ es) h = timely (afterEvent l (start c now)) es (start-timely l c now h .1)
+timely l (step now ∷ es) h = timely (afterEvent l (step now)) es (step-timely l now h .1)
+timely l (frame x now ∷ es) h = timely (afterEvent l (frame x now)) es (frame-timely l x now h)
 timely l (other ∷ es) h = timely l es h
 
 -- any step that says waiting gives a due time after now
@@ -191,6 +192,17 @@ waits-later l now d = go (stepSaid (l .state .clock) (opOf l .phase) now)
         let v = step-moves 0 0 most now (omega arith) l (omega arith) (omega arith) in
         subst (λ (x : Said). GivenWithin most now x (stepped l now .operation .due)) e (v .given) .0
     go (checked.Refused r) e = subst (λ (x : Said). GivenWithin 0 now x 0) e tt .0
+
+-- and at or after the due time a pause has begun
+waits-in-pause : (l : Lone) (now d : ℕ) → opOf l .due ≤ now → loneStep l now .said ≡ said.Waiting d
+    → isPausing (opOf (loneStep l now .lone) .phase) ≡ true
+waits-in-pause l now d h = go (stepSaid (l .state .clock) (opOf l .phase) now)
+  where
+    go : (s : Checked) → loneStepBy s l now .said ≡ said.Waiting d → isPausing (opOf (loneStepBy s l now .lone) .phase) ≡ true
+    go checked.Passed e =
+        subst (λ (x : Said). pausesBy x (stepped l now .operation .phase) ≡ true) e
+        (late-pauses (sightOf (l .state)) now (opOf l) (le-ltb now (opOf l .due) h) (opOf l .phase) (wanted (opOf l .phase) (λ id. lookup id (l .readings))))
+    go (checked.Refused r) e = subst (λ (x : Said). pausesBy x (opOf l .phase) ≡ true) e refl
 
 -- ---- the theorem
 
@@ -213,20 +225,20 @@ bounds =
     record {
       frames =
           λ l c now es h.
-          accepted l c now (λ a. once (hasFrame (a .said)) + count sends (a .lone) es ≤ limitOf c) h
+          accepted l c now (λ a. once (hasFrame (a .said)) + count sends (a .lone) es ≤ mostFramesOf c) h
           (omega (arith, frames-within c, started 1 0 now l c .paid, frames-sent (begun l c now .lone) es));
       limits = λ c. limit-within c;
       steps =
           λ l c now es h.
           accepted l c now (λ a. count isDue (a .lone) es ≤ mostDueSteps) h
           (omega (arith, steps-within c, started 0 1 now l c .paid, due-steps (begun l c now .lone) es));
-      waits = λ l now d h e. (waits-later l now d e, omega (arith, waits-later l now d e));
+      waits = λ l now d h e. (waits-later l now d e, omega (arith, waits-later l now d e), waits-in-pause l now d h e);
       started =
           λ id host model wait since es c now.
           let l = loneNew id host model wait since in
-          start-timely (afterAll l es) c now (timely l es (omega arith, omega arith)) .0;
+          start-timely (afterEvents l es) c now (timely l es (omega arith, omega arith)) .0;
       stepped =
           λ id host model wait since es now.
           let l = loneNew id host model wait since in
-          step-timely (afterAll l es) now (timely l es (omega arith, omega arith)) .0;
+          step-timely (afterEvents l es) now (timely l es (omega arith, omega arith)) .0;
     }

@@ -22,7 +22,7 @@ use Rattle.motor.specs.Calls.{isIdle, arguedOf, startAdmitted, startSaid
 use Rattle.motor.specs.Lone.{Lone, LoneAnswered, LoneHeard, loneRefused, loneMoved, loneStart, loneStartBy, loneStep, loneStepBy, hears}
 use Rattle.motor.specs.Numbers.{firstOf}
 use Rattle.motor.specs.Readings.{lookup, insert, room}
-use Rattle.motor.specs.Receive.{acceptsFrame, isLate, isRead, countedAt, toldBy, readStatus, readId, readStored, frameSaid, stateAfter, readingsAfter}
+use Rattle.motor.specs.Receive.{acceptsFrame, isOutOfTime, isRead, countedAt, toldBy, readStatus, readId, readStored, frameSaid, stateAfter, readingsAfter}
 use Rattle.motor.specs.engine.Run.{noOperation, advanced, begunBy}
 use Rattle.motor.proofs.Ends.{Closed, Ends, begin-ends, advance-ends}
 use Rattle.motor.proofs.Stays.{movesBy, moves, heardMoves, Stays, start-stays, step-stays, argued-passed, running}
@@ -79,7 +79,7 @@ module _ (l : Lone) (now : ℕ) where
       go checked.Passed e h =
           let f = wanted p (λ id. lookup id (l .readings)) in
           let v = advanced (sightOf (l .state)) now (l .state .operation) f p in
-          moved (l .state .command) v (advance-ends (sightOf (l .state)) now (l .state .operation) f p (running (isLate clock now) (isIdle p) e)) refl
+          moved (l .state .command) v (advance-ends (sightOf (l .state)) now (l .state .operation) f p (running (isOutOfTime clock now) (isIdle p) e)) refl
       go (checked.Refused r) e h = same r h refl
 
   clock-by : {a : LoneAnswered} → Outcome l now a → a .lone .state .clock ≡ cond (moves (a .said)) now (l .state .clock)
@@ -152,7 +152,7 @@ clock-of l =
     record {
       start = λ c now. clock-by l now (start-outcome l now c);
       step = λ now. clock-by l now (step-outcome l now);
-      frame = λ f now. frame-clock l f now (not (acceptsFrame (l .state .«motor_id») f)) (isLate (l .state .clock) now) (isRead f && not (eqb (readStatus f) 0)) (isRead f && not (room (readId f) (l .readings)));
+      frame = λ f now. frame-clock l f now (not (acceptsFrame (l .state .«motor_id») f)) (isOutOfTime (l .state .clock) now) (isRead f && not (eqb (readStatus f) 0)) (isRead f && not (room (readId f) (l .readings)));
     }
 
 -- refused by such a number, the lone motor is the same value
@@ -167,7 +167,7 @@ refused-nothing l =
     record {
       start = λ c now. same-by l now (start-outcome l now c);
       step = λ now. same-by l now (step-outcome l now);
-      frame = λ f now. frame-same l f now (not (acceptsFrame (l .state .«motor_id») f)) (isLate (l .state .clock) now) (isRead f && not (eqb (readStatus f) 0)) (isRead f && not (room (readId f) (l .readings)));
+      frame = λ f now. frame-same l f now (not (acceptsFrame (l .state .«motor_id») f)) (isOutOfTime (l .state .clock) now) (isRead f && not (eqb (readStatus f) 0)) (isRead f && not (room (readId f) (l .readings)));
     }
 
 -- refused by the tests of start or step, whatever the number, the whole answer is the refusal beside the same lone motor

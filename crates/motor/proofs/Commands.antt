@@ -2,6 +2,7 @@
 -- passed, and within its frames and due steps. Assumes nothing.
 use Prim.Native.Nat.{ℕ, _≤_}
 use mathlib.Core.Path.{_≡_, refl}
+use mathlib.Core.Bool.{false}
 use mathlib.Core.List.{List, [], _∷_}
 use native.Mathlib.Omega.{arith}
 use lib.Dec.{T, eqb, leb, leb→le}
@@ -15,12 +16,13 @@ use Rattle.motor.specs.declared.engine.command.Command.{Command}
 use Rattle.motor.specs.declared.engine.command.Command.the-variants as command
 use Rattle.motor.specs.declared.engine.node.Node.{Node}
 use Rattle.motor.specs.declared.engine.node.Node.the-variants as node
-use Rattle.motor.specs.Bounds.{limitOf}
+use Rattle.motor.specs.Bounds.{mostFramesOf}
 use Rattle.motor.specs.Calls.{timeoutOf, arguedOf, encodes}
 use Rattle.motor.specs.Limits.{mostDueSteps, mostFrames}
 use Rattle.motor.specs.engine.Operations.{beginsWith}
+use Rattle.motor.specs.engine.Run.{requestOf}
 use Rattle.motor.proofs.engine.command.Command.{the-type}
-use Rattle.motor.proofs.GoodNodes.{Good}
+use Rattle.motor.proofs.GoodNodes.{isWrite, Good}
 use Rattle.motor.proofs.Measures.{by-test, Paced, window-small, nodeLeft}
 use Rattle.walks.proofs.LastArm.{Unless, others, unless}
 
@@ -31,16 +33,16 @@ timed = 0 ∷ 1 ∷ 3 ∷ 6 ∷ 7 ∷ 15 ∷ 16 ∷ 21 ∷ 22 ∷ 23 ∷ 24 ∷ 
 abbrev pub asked : List ℕ
 asked = 1 ∷ 7 ∷ 8 ∷ 17 ∷ 22 ∷ []
 
--- a node with which an operation may begin: it doesn't fail, and its write the encoder takes
+-- a node with which an operation may begin: it doesn't fail, its write the encoder takes, and its other requests are no writes
 abbrev pub Opens : Node → Type 0
 Opens (node.Finish r) = Unit {0}
 Opens node.Report = Unit {0}
 Opens node.ClearFault = Unit {0}
 Opens (node.Fail r) = ⊥
 Opens (node.Pause d k) = Unit {0}
-Opens (node.Last r) = Unit {0}
+Opens (node.Last r) = isWrite r ≡ false
 Opens (node.Write id v k) = encodes (encodeParameterValue id v) ≡ checked.Passed
-Opens (node.Await w window whom) = Unit {0}
+Opens (node.Await w window whom) = isWrite (requestOf w) ≡ false
 Opens (node.Motion p v kp kd t r) = Unit {0}
 Opens (node.Rename new) = Unit {0}
 
@@ -54,40 +56,40 @@ Each c =
     Unless (hasKey timed (tagOf the-type c)) (timeoutOf c ≡ 0)
     × Unless (hasKey asked (tagOf the-type c)) (arguedOf c ≡ checked.Passed)
     × (arguedOf c ≡ checked.Passed → Opens (beginsWith c))
-    × Begins (limitOf c) (beginsWith c)
+    × Begins (mostFramesOf c) (beginsWith c)
 
 each : (c : Command) → Each c
 unfolding parameterInfo kindOf among listedIds int8Ids uint8Ids uint16Ids uint32Ids
-each (command.Ping timeout) = (tt, refl, λ h. tt, (tt, tt, tt, window-small timeout 120 (omega arith)))
-each (command.PingWithHostId h timeout) = (tt, tt, λ h. tt, (tt, tt, tt, window-small timeout 0 (omega arith)))
+each (command.Ping timeout) = (tt, refl, λ h. refl, (tt, tt, tt, window-small timeout 120 (omega arith)))
+each (command.PingWithHostId h timeout) = (tt, tt, λ h. refl, (tt, tt, tt, window-small timeout 0 (omega arith)))
 each (command.SetMode m) = (refl, refl, λ h. refl, (tt, tt, tt, tt))
-each (command.EnsureControlMode m timeout) = (tt, refl, λ h. tt, (tt, tt, tt, window-small timeout 150 (omega arith)))
-each command.SetZeroPosition = (refl, refl, λ h. tt, (tt, tt, tt, omega arith))
-each command.SaveParameters = (refl, refl, λ h. tt, (tt, tt, tt, omega arith))
-each (command.GetProtocolFlag timeout) = (tt, refl, λ h. tt, (tt, tt, tt, window-small timeout 150 (omega arith)))
+each (command.EnsureControlMode m timeout) = (tt, refl, λ h. refl, (tt, tt, tt, window-small timeout 150 (omega arith)))
+each command.SetZeroPosition = (refl, refl, λ h. refl, (tt, tt, tt, omega arith))
+each command.SaveParameters = (refl, refl, λ h. refl, (tt, tt, tt, omega arith))
+each (command.GetProtocolFlag timeout) = (tt, refl, λ h. refl, (tt, tt, tt, window-small timeout 150 (omega arith)))
 each (command.SetProtocol n timeout) = (
   tt,
   tt,
-  λ h. by-test (λ t x. Opens x) (eqb timeout 0) (λ e. tt) (λ e. tt),
+  λ h. by-test (λ t x. Opens x) (eqb timeout 0) (λ e. refl) (λ e. refl),
   by-test (λ t x. Begins 4 x) (eqb timeout 0) (λ e. (tt, tt, tt, tt)) (λ e. (tt, tt, tt, window-small timeout 120 (omega arith))),
 )
-each (command.SetDeviceId new) = (refl, tt, λ h. tt, (tt, tt, tt, window-small 140 120 (omega arith)))
-each command.Enable = (refl, refl, λ h. tt, (tt, tt, tt, omega arith))
-each command.Disable = (refl, refl, λ h. tt, (tt, tt, tt, omega arith))
-each command.ClearError = (refl, refl, λ h. tt, (tt, tt, tt, omega arith))
-each (command.SetActiveReport on) = (refl, refl, λ h. tt, (tt, tt, tt, tt))
+each (command.SetDeviceId new) = (refl, tt, λ h. refl, (tt, tt, tt, window-small 140 120 (omega arith)))
+each command.Enable = (refl, refl, λ h. refl, (tt, tt, tt, omega arith))
+each command.Disable = (refl, refl, λ h. refl, (tt, tt, tt, omega arith))
+each command.ClearError = (refl, refl, λ h. refl, (tt, tt, tt, omega arith))
+each (command.SetActiveReport on) = (refl, refl, λ h. refl, (tt, tt, tt, tt))
 each (command.SendCmdMit p v kp kd t) = (refl, refl, λ h. tt, (tt, tt, tt, tt))
 each (command.SetVelocityTarget v) = (refl, refl, λ h. refl, (tt, tt, tt, tt))
-each (command.GetControlMode timeout) = (tt, refl, λ h. tt, (tt, tt, tt, window-small timeout 150 (omega arith)))
-each (command.ControlledStop timeout) = (tt, refl, λ h. tt, (tt, tt, tt, window-small timeout 150 (omega arith)))
+each (command.GetControlMode timeout) = (tt, refl, λ h. refl, (tt, tt, tt, window-small timeout 150 (omega arith)))
+each (command.ControlledStop timeout) = (tt, refl, λ h. refl, (tt, tt, tt, window-small timeout 150 (omega arith)))
 each (command.WriteParameter id v) = (refl, tt, λ h. h, (tt, tt, tt, tt))
 each (command.SendCmdPosVelCsp p v) = (refl, refl, λ h. refl, (tt, tt, tt, tt))
 each (command.SendCmdPosVelPp p v a) = (refl, refl, λ h. refl, (tt, tt, tt, tt))
-each (command.RequestParameter id) = (refl, refl, λ h. tt, (tt, tt, tt, tt))
-each (command.GetParameter id timeout) = (tt, refl, λ h. tt, (tt, tt, tt, window-small timeout 150 (omega arith)))
-each (command.GetParameterWithHostId id h timeout) = (tt, tt, λ h. tt, (tt, tt, tt, window-small timeout 0 (omega arith)))
-each (command.GetParameterF32 id timeout) = (tt, refl, λ h. tt, (tt, tt, tt, window-small timeout 150 (omega arith)))
-each (command.GetParameterI8 id timeout) = (tt, refl, λ h. tt, (tt, tt, tt, window-small timeout 150 (omega arith)))
+each (command.RequestParameter id) = (refl, refl, λ h. refl, (tt, tt, tt, tt))
+each (command.GetParameter id timeout) = (tt, refl, λ h. refl, (tt, tt, tt, window-small timeout 150 (omega arith)))
+each (command.GetParameterWithHostId id h timeout) = (tt, tt, λ h. refl, (tt, tt, tt, window-small timeout 0 (omega arith)))
+each (command.GetParameterF32 id timeout) = (tt, refl, λ h. refl, (tt, tt, tt, window-small timeout 150 (omega arith)))
+each (command.GetParameterI8 id timeout) = (tt, refl, λ h. refl, (tt, tt, tt, window-small timeout 150 (omega arith)))
 
 -- ---- what a call gives
 
@@ -108,19 +110,19 @@ opens-good node.Report o = tt
 opens-good node.ClearFault o = tt
 opens-good (node.Fail r) o = absurd o
 opens-good (node.Pause d k) o = tt
-opens-good (node.Last r) o = tt
+opens-good (node.Last r) o = o
 opens-good (node.Write id v k) o = o
-opens-good (node.Await w window whom) o = tt
+opens-good (node.Await w window whom) o = o
 opens-good (node.Motion p v kp kd t r) o = tt
 opens-good (node.Rename new) o = tt
 
 pub begins-good : (c : Command) → arguedOf c ≡ checked.Passed → Good (beginsWith c)
 begins-good c h = opens-good (beginsWith c) (opens c h)
 
-pub frames-within : (c : Command) → nodeLeft 1 0 (beginsWith c) ≤ limitOf c
+pub frames-within : (c : Command) → nodeLeft 1 0 (beginsWith c) ≤ mostFramesOf c
 frames-within c = leb→le _ _ (each c .3 .0)
 
-pub limit-within : (c : Command) → limitOf c ≤ mostFrames
+pub limit-within : (c : Command) → mostFramesOf c ≤ mostFrames
 limit-within c = leb→le _ _ (each c .3 .1)
 
 pub steps-within : (c : Command) → nodeLeft 0 1 (beginsWith c) ≤ mostDueSteps

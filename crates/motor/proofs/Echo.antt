@@ -1,5 +1,5 @@
--- Echo: a value accepted for writing, whose id and four bytes come back as the write frame carried them, is held with its kind and
--- bits. And what is held of a listed parameter is written out as it came. Assumes nothing.
+-- Echo: a value that the encoder takes, whose id and four bytes come back as a write of it carries them, is held with its kind and bits,
+-- whoever wrote it; so of a call write_parameter. And what is held of a listed parameter is written out as it came. Assumes nothing.
 use Prim.Native.Nat.{ℕ, _+_, _*_, _/_, _%_, _^_, _<_}
 use mathlib.Core.Path.{_≡_, refl, sym, ap, _∙_}
 use mathlib.Core.Bool.{Bool, true, false, cond}
@@ -18,8 +18,8 @@ use Rattle.codec.specs.declared.registers.ParameterDataType.{ParameterDataType}
 use Rattle.codec.specs.declared.registers.ParameterDataType.the-variants.{Int8, UInt8, UInt16, UInt32, Float32}
 use Rattle.codec.specs.declared.registers.ParameterInfo.the-variants as info
 use Rattle.codec.specs.Kinds.{parameterInfo}
-use Rattle.codec.specs.Values.{le32, widthOf, rawOf, encodeParameterValue, encodeParameterWrite, decodeReadParameterValue}
-use Rattle.codec.proofs.RoundTrips.{InRange, accepted, echoed}
+use Rattle.codec.specs.Values.{le32, widthOf, rawOf, InRange, encodeParameterValue, encodeParameterWrite, decodeReadParameterValue}
+use Rattle.codec.proofs.RoundTrips.{accepted, echoed}
 use Rattle.codec.proofs.RoundTrips as codec
 use Rattle.codec.proofs.TwosComplement.{byte-lt}
 use Rattle.motor.specs.declared.engine.command.Command.the-variants as command
@@ -27,6 +27,7 @@ use Rattle.motor.specs.declared.engine.operation.Move.{Move}
 use Rattle.motor.specs.declared.engine.reading.Stored.{Stored}
 use Rattle.motor.specs.declared.engine.reading.Found.the-variants.{Held}
 use Rattle.motor.specs.Calls.{encodes, startSaid, startAdmitted}
+use Rattle.motor.specs.Echo.{Carries, usedPayload, WrittenOut}
 use Rattle.motor.specs.Lone.{Lone, loneStart, hears}
 use Rattle.motor.specs.Readings.{lookup}
 use Rattle.motor.specs.Receive.{isRead, readId, readStored, readingsAfter}
@@ -73,15 +74,6 @@ module _ (l : Lone) (id : ℕ) (v : ParameterValue) (at : ℕ) (ok : startSaid (
 
 -- ---- echo
 
--- bytes 0, 1 and 4 to 7 are those of another payload: an id, and a value's four bytes
-pub record Carries (payload other : List ℕ) : Type 0 where
-  pub id-low : getD payload 0 0 ≡ getD other 0 0
-  pub id-high : getD payload 1 0 ≡ getD other 1 0
-  pub byte-0 : getD payload 4 0 ≡ getD other 4 0
-  pub byte-1 : getD payload 5 0 ≡ getD other 5 0
-  pub byte-2 : getD payload 6 0 ≡ getD other 6 0
-  pub byte-3 : getD payload 7 0 ≡ getD other 7 0
-
 carried-id : (f : CanFrame) (id raw : ℕ) → Carries (f .data) (encodeParameterWrite id raw) → readId f ≡ id
 unfolding readId
 carried-id f id raw c = omega arith
@@ -89,7 +81,22 @@ carried-id f id raw c = omega arith
 carried-raw : (payload : List ℕ) (id raw : ℕ) → raw < 2 ^ 32 → Carries payload (encodeParameterWrite id raw) → le32 payload 4 ≡ raw
 carried-raw payload id raw h c = omega arith
 
--- the value is held, whatever lone motor hears the reply, if it isn't refused
+-- whoever writes it: the value is held, whatever lone motor hears the reply, if it isn't refused
+pub echo-of : (id raw : ℕ) (v : ParameterValue) → InRange v → encodeParameterValue id v ≡ encoded.Raw raw
+    → (m : Lone) (f : CanFrame) (now : ℕ)
+    → isRead f ≡ true
+    → Carries (f .data) (encodeParameterWrite id raw)
+    → hears m f now .said ≡ checked.Passed
+    → lookup id (hears m f now .lone .readings) ≡ Held (record { value = v })
+unfolding readStored
+echo-of id raw v range e m f now read c passed =
+    let own : rawOf v ≡ raw = accepted (parameterInfo id) v raw e .1 in
+    let small : raw < 2 ^ 32 = rw (← own) (raw-lt v range) in
+    let r : decodeReadParameterValue id (f .data) ≡ v = echoed id raw v (f .data) range e (carried-raw (f .data) id raw small c) in
+    let h : lookup id (hears m f now .lone .readings) ≡ Held (record { value = decodeReadParameterValue id (f .data) }) = rw (carried-id f id raw c) at (heard-held m f now read passed) in
+    rw r at h
+
+-- a call write_parameter that isn't refused: its frame carries such a write
 pub echo : (l : Lone) (id : ℕ) (v : ParameterValue) (at : ℕ)
     → startSaid (l .state .clock) (l .state .operation .phase) (command.WriteParameter id v) at ≡ checked.Passed
     → InRange v
@@ -98,35 +105,13 @@ pub echo : (l : Lone) (id : ℕ) (v : ParameterValue) (at : ℕ)
     → Carries (f .data) (loneStart l (command.WriteParameter id v) at .frame .data)
     → hears m f now .said ≡ checked.Passed
     → lookup id (hears m f now .lone .readings) ≡ Held (record { value = v })
-unfolding readStored
 echo l id v at ok range m f now read c passed =
-    let d : Carries (f .data) (encodeParameterWrite id (rawOf v)) = rw (write-carries l id v at ok) at c in
-    let i : readId f ≡ id = carried-id f id (rawOf v) d in
-    let r : decodeReadParameterValue id (f .data) ≡ v = echoed id (rawOf v) v (f .data) range (accepted-raw l id v at ok) (carried-raw (f .data) id (rawOf v) (raw-lt v range) d) in
-    let h : lookup id (hears m f now .lone .readings) ≡ Held (record { value = decodeReadParameterValue id (f .data) }) = rw i at (heard-held m f now read passed) in
-    rw r at h
+    echo-of id (rawOf v) v range (accepted-raw l id v at ok) m f now read (rw (write-carries l id v at ok) at c) passed
 
 -- ---- written out
 
--- byte i of the value in a payload, 0 where the kind doesn't use it
-abbrev pub usedByte : ℕ → List ℕ → ℕ → ℕ
-usedByte width payload i = cond (ltb i width) (getD payload (4 + i) 0) 0
-
 four : {h g a b c d x y z w : ℕ} → x ≡ a → y ≡ b → z ≡ c → w ≡ d → h ∷ g ∷ 0 ∷ 0 ∷ x ∷ y ∷ z ∷ w ∷ [] ≡ h ∷ g ∷ 0 ∷ 0 ∷ a ∷ b ∷ c ∷ d ∷ []
 four p q r s = cc
-
--- the payload of a write, with the bytes of this payload that a kind uses, then zeros
-abbrev pub usedPayload : List ℕ → ℕ → ParameterDataType → List ℕ
-usedPayload payload id kind =
-    id % 256
-    ∷ id / 256
-    ∷ 0
-    ∷ 0
-    ∷ usedByte (widthOf kind) payload 0
-    ∷ usedByte (widthOf kind) payload 1
-    ∷ usedByte (widthOf kind) payload 2
-    ∷ usedByte (widthOf kind) payload 3
-    ∷ []
 
 module _ (payload : List ℕ) (small : (i : ℕ) → getD payload i 0 < 256) where
   small-raw : le32 payload 4 < 2 ^ 32
@@ -148,12 +133,6 @@ module _ (payload : List ℕ) (small : (i : ℕ) → getD payload i 0 < 256) whe
       four (omega (arith, small 4, small 5)) (omega (arith, small 4, small 5)) (omega (arith, small 4, small 5)) (omega (arith, small 4, small 5))
   used id UInt32 = all id
   used id Float32 = all id
-
--- a held reading of a listed parameter is encoded, and its write carries the bytes of its payload that its kind uses, then zeros
-pub record WrittenOut (id : ℕ) (v : ParameterValue) (kind : ParameterDataType) (payload : List ℕ) : Type 0 where
-  pub raw : ℕ
-  pub encodes-as : encodeParameterValue id v ≡ encoded.Raw raw
-  pub carries : encodeParameterWrite id raw ≡ usedPayload payload id kind
 
 pub written-out : (m : Lone) (f : CanFrame) (now : ℕ)
     → isRead f ≡ true

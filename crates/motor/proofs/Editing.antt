@@ -6,22 +6,30 @@ use mathlib.Core.List.{List, [], _∷_}
 use lib.Dec.{ltb, eqb}
 use lib.ListN.{set}
 use lib.Seq.{set-getD}
-use borrow.Author.Tests.{eqb-true, eqb-false}
+use borrow.Author.Tests.{eqb-false}
 use Rattle.codec.specs.declared.bus.CanFrame.{CanFrame}
 use Rattle.codec.specs.declared.error.Checked.{Checked}
+use Rattle.codec.specs.declared.error.Checked.the-variants.{Passed, Refused}
+use Rattle.codec.specs.declared.error.Refusal.the-variants.{ReadFailed, ReadingsFull}
+use Rattle.codec.specs.declared.protocol.IdParts.{IdParts}
+use Rattle.codec.specs.Kinds.{among}
+use Rattle.motor.specs.declared.edits.Edit.{Edit}
+use Rattle.motor.specs.declared.edits.PutEdit.{PutEdit}
+use Rattle.motor.specs.declared.edits.ReadHeard.{ReadHeard}
 use Rattle.motor.specs.declared.engine.reading.Stored.{Stored}
 use Rattle.motor.specs.declared.motor.Motor.{Motor}
+use Rattle.motor.specs.declared.motor.State.{State}
 use Rattle.motor.specs.declared.readings.Reading.{Reading}
 use Rattle.motor.specs.declared.readings.Readings.{Readings}
 use Rattle.motor.specs.declared.readings.PutAnswer.{PutAnswer}
 use Rattle.motor.specs.declared.readings.PutAnswer.the-variants.{Kept, Full}
 use Rattle.motor.specs.declared.readings.PutResult.{PutResult}
-use Rattle.motor.specs.declared.edits.PutEdit.{PutEdit}
 use Rattle.motor.specs.Limits.{mostReadings}
-use Rattle.motor.specs.Readings.{freeRecord, reading, entryAt, storedAt, withNext, linkedAt, replacedAt, kept, fullOf, addAt, putAt, putOf, seekOf, holderOf}
-use Rattle.motor.specs.Receive.{partsOf, acceptsFrame, isLate, isRead, readStatus, readId, readStored, heardWith, processFeedbackFrame, admittedTo}
-use Rattle.motor.specs.Edits.{editedBy, noEdit, linkEdit, replaceEdit, keptEdit, fullEdit, addEdit, putEditAt, putEdit, readTaken, hearReadBy, hearRead}
-use Rattle.motor.proofs.Receiving.{heard-13, heard-7, heard-14, heard-15, heard-value, admitted-13, admitted-7, admitted}
+use Rattle.motor.specs.Readings.{freeRecord, reading, entryAt, storedAt, withNext, kept, fullOf, addAt, putAt, putOf, holderOf, isRecord, siteOf}
+use Rattle.motor.specs.Receive.{partsOf, acceptsFrame, isOutOfTime, countedAt, toldBy, isRead, statusIn, readStatus, readId, readStored, frameSaid, stateAfter, readingsAfter, heardWith, processFeedbackFrame}
+use Rattle.motor.specs.Edits.{editedBy, noEdit, addEdit, putEditAt, putEdit, readKept, hearRead}
+use Rattle.motor.proofs.Receiving.{read-tells, admittedTo, admitted-13, admitted-7, admitted}
+use Rattle.motor.proofs.Sites.{site-before, site-next, site-free, site-after, site-head, holder-same, holder-there}
 
 -- a record stored goes on to where it goes
 set-again : (l : List Reading) (n : ℕ) (x : Reading) → set (set l n x) n (reading (entryAt (set l n x) n) (x .next)) ≡ set l n x
@@ -42,48 +50,68 @@ abbrev pub putWith : Readings → PutEdit → PutResult
 putWith rs p = record { said = p .said; readings = editedBy rs (p .edit) }
 
 -- a put's answer, and its edit stored, are those of the by-value put
-pub edit-puts : (rs : Readings) (id : ℕ) (s : Stored) → putWith rs (putEdit rs id s) ≡ putOf rs id s
-unfolding putEditAt putAt addEdit addAt editedBy
-edit-puts rs id s = go (eqb (holderOf rs id) 0) (eqb (rs .free) 0) (ltb mostReadings (rs .free))
+pub edit-puts : (rs : Readings) (id : ℕ) (s : Stored) → putWith rs (putEdit (siteOf rs id) id s) ≡ putOf rs id s
+unfolding putEditAt putAt addEdit addAt editedBy isRecord
+edit-puts rs id s = go (eqb (holderOf rs id) 0) (eqb f 0) (ltb mostReadings f) refl refl refl
   where
-    q : ℕ
-    q = seekOf rs id
-
-    n : ℕ
-    n = holderOf rs id
-
     f : ℕ
     f = rs .free
 
-    go : (new none past : Bool)
-        → putWith rs (cond new (cond none (fullEdit rs) (cond past (fullEdit rs) (keptEdit (linkEdit rs q f id s)))) (keptEdit (replaceEdit rs n id s)))
-        ≡ cond new (cond none (fullOf rs) (cond past (fullOf rs) (kept (linkedAt rs q f id s)))) (kept (replacedAt rs n id s))
-    go true true past = ap fullOf (no-edit rs)
-    go true false true = ap fullOf (no-edit rs)
-    go true false false = refl
-    go false none past = ap kept (stored-again rs n _ f)
+    go : (new none past : Bool) → eqb (holderOf rs id) 0 ≡ new → eqb f 0 ≡ none → ltb mostReadings f ≡ past
+        → putWith rs (putEdit (siteOf rs id) id s) ≡ putOf rs id s
+    go true true past a b c = rw (holder-same rs id, a, site-free rs id, b, site-head rs id) (ap fullOf (no-edit rs))
+    go true false true a b c = rw (holder-same rs id, a, site-free rs id, b, c, site-head rs id) (ap fullOf (no-edit rs))
+    go true false false a b c = rw (holder-same rs id, a, site-free rs id, b, c, site-next rs id, site-before rs id, site-after rs id c)
+    go false none past a b c = rw (holder-same rs id, a, site-free rs id, holder-there rs id (eqb-false _ _ a)) (ap kept (stored-again rs (holderOf rs id) _ f))
 
--- a read reply: its edit stored, the readings are those of the by-value call
-pub heard-read : (m : Motor) (f : CanFrame) (now : ℕ) → isRead f ≡ true
-    → processFeedbackFrame m f now ≡ heardWith (hearRead m f now .state) (editedBy (m .readings) (hearRead m f now .edit)) (hearRead m f now .said)
-unfolding readTaken readStatus
-heard-read m f now r = go (acceptsFrame (m .state .«motor_id») f) (isLate (m .state .clock) now) (eqb (readStatus f) 0) (put .said) refl refl refl refl
+-- ---- a frame
+
+edits-after : (said : Checked) (f : CanFrame) (rs : Readings) (e : Edit) → readingsAfter said f (editedBy rs e) rs ≡ editedBy rs (readingsAfter said f e (noEdit rs))
+unfolding readingsAfter
+edits-after (Refused r) f rs e = sym (no-edit rs)
+edits-after Passed f rs e = go (isRead f)
   where
-    put : PutEdit
-    put = putEdit (m .readings) (readId f) (readStored f)
+    go : (b : Bool) → cond b (editedBy rs e) rs ≡ editedBy rs (cond b e (noEdit rs))
+    go true = refl
+    go false = sym (no-edit rs)
 
-    puts : putWith (m .readings) put ≡ putOf (m .readings) (readId f) (readStored f)
-    puts = edit-puts (m .readings) (readId f) (readStored f)
+-- its edit stored, the readings are those of the by-value call
+pub heard-read : (m : Motor) (f : CanFrame) (now : ℕ)
+    → processFeedbackFrame m f now ≡ heardWith (hearRead m f now .state) (editedBy (m .readings) (hearRead m f now .edit)) (hearRead m f now .said)
+unfolding processFeedbackFrame hearRead
+heard-read m f now = rw (← edit-puts (m .readings) (readId f) (readStored f), edits-after)
 
+abbrev pub putHere : Motor → CanFrame → PutEdit
+putHere m f = putEdit (siteOf (m .readings) (readId f)) (readId f) (readStored f)
+
+-- no room is 15, and nothing is stored
+abbrev pub readPut : State → Readings → Edit → PutAnswer → ReadHeard
+readPut state rs e Kept = record { state = state; edit = e; said = Passed }
+readPut state rs e Full = readKept state rs (Refused ReadingsFull)
+
+-- a read reply that is counted, by its status
+abbrev pub readTaken : State → Motor → ℕ → CanFrame → ReadHeard
+readTaken state m status f =
+    cond (eqb status 0) (readPut state (m .readings) (putHere m f .edit) (putHere m f .said)) (readKept state (m .readings) (Refused (ReadFailed (readId f) status)))
+
+abbrev pub hearReadBy : Checked → Motor → IdParts → CanFrame → ℕ → ReadHeard
+hearReadBy Passed m p f now =
+    cond (eqb (p .«comm_type») 17) (readTaken (countedAt (m .state) now) m (statusIn p) f) (readKept (toldBy (countedAt (m .state) now) p f) (m .readings) Passed)
+hearReadBy (Refused r) m p f now = readKept (m .state) (m .readings) (Refused r)
+
+-- a frame by its admission, its type and its status
+pub read-by : (m : Motor) (f : CanFrame) (now : ℕ) → hearRead m f now ≡ hearReadBy (admittedTo (m .state) (partsOf f) f now) m (partsOf f) f now
+unfolding hearRead frameSaid stateAfter readingsAfter among readStatus isRead
+read-by m f now = go (acceptsFrame (m .state .«motor_id») f) (isOutOfTime (m .state .clock) now) (isRead f) (eqb (readStatus f) 0) (putHere m f .said) refl refl refl refl refl
+  where
     by : Checked → Type 0
-    by k =
-        let h = hearReadBy k m (partsOf f) f now in
-        processFeedbackFrame m f now ≡ heardWith (h .state) (editedBy (m .readings) (h .edit)) (h .said)
+    by k = hearRead m f now ≡ hearReadBy k m (partsOf f) f now
 
-    go : (a l z : Bool) (k : PutAnswer) → acceptsFrame (m .state .«motor_id») f ≡ a → isLate (m .state .clock) now ≡ l → eqb (readStatus f) 0 ≡ z → put .said ≡ k
-        → by (admittedTo (m .state) (partsOf f) f now)
-    go false l z k p q s e = subst by (sym (admitted-13 (m .state) f now p)) (rw (heard-13 m f now p, no-edit))
-    go true true z k p q s e = subst by (sym (admitted-7 (m .state) f now p q)) (rw (heard-7 m f now p q, no-edit))
-    go true false false k p q s e = subst by (sym (admitted (m .state) f now p q)) (rw (heard-14 m f now p q r (eqb-false _ _ s), s, no-edit))
-    go true false true Kept p q s e = subst by (sym (admitted (m .state) f now p q)) (rw (heard-value m f now p q r (eqb-true _ _ s) (putWith (m .readings) put) puts e, s, e))
-    go true false true Full p q s e = subst by (sym (admitted (m .state) f now p q)) (rw (heard-15 m f now p q r (eqb-true _ _ s) (putWith (m .readings) put) puts e, s, e, no-edit))
+    go : (a l r z : Bool) (k : PutAnswer) → acceptsFrame (m .state .«motor_id») f ≡ a → isOutOfTime (m .state .clock) now ≡ l → isRead f ≡ r → eqb (readStatus f) 0 ≡ z
+        → putHere m f .said ≡ k → by (admittedTo (m .state) (partsOf f) f now)
+    go false l r z k p q t s e = subst by (sym (admitted-13 (m .state) f now p)) (rw p)
+    go true true r z k p q t s e = subst by (sym (admitted-7 (m .state) f now p q)) (rw (p, q))
+    go true false false z k p q t s e = subst by (sym (admitted (m .state) f now p q)) (rw (p, q, t, t))
+    go true false true false k p q t s e = subst by (sym (admitted (m .state) f now p q)) (rw (p, q, t, s))
+    go true false true true Kept p q t s e = subst by (sym (admitted (m .state) f now p q)) (rw (p, q, t, s, e, t, read-tells (countedAt (m .state) now) f t))
+    go true false true true Full p q t s e = subst by (sym (admitted (m .state) f now p q)) (rw (p, q, t, s, e))

@@ -8,6 +8,7 @@ use Rattle.codec.specs.declared.registers.ControlMode.the-variants as mode
 use Rattle.codec.specs.declared.registers.ModeRead.{ModeRead}
 use Rattle.codec.specs.declared.registers.ModeRead.the-variants as read
 use Rattle.codec.specs.declared.word.Word.{Word}
+use Rattle.codec.specs.Modes.{controlModeFromRaw}
 use lib.IntN.{ℤ}
 use Rattle.motor.specs.declared.engine.operation.Sight.{Sight}
 use Rattle.motor.specs.declared.engine.kinds.FloatIn.{FloatIn}
@@ -27,14 +28,14 @@ use Rattle.motor.specs.declared.engine.node.Pinged.the-variants as pinge
 use Rattle.motor.specs.declared.engine.node.Wait.{Wait}
 use Rattle.motor.specs.declared.engine.node.Wait.the-variants as wait
 use Rattle.motor.specs.engine.Operations.{ackedOf, notAcked, gotValue, noValue, gotPing, windowsGone}
-use Rattle.motor.specs.engine.Script.{signedIn, floatIn, asFlag, asSigned, asFloat, modeOr17, modeIn, stopIn, absOf, isUsable, limit, tryIn, firstRead, backRead, isMode, ensureAcked, ensureLost}
+use Rattle.motor.specs.engine.Script.{signedIn, floatIn, asFlag, asSigned, asFloat, modeOr17, stopIn, absOf, isUsable, putLimit, tryIn, firstRead, backRead, isMode, ensureAcked, ensureLost}
 use Rattle.motor.proofs.Measures.{by-test, window-small, four, tries, ackedLeft, gotLeft, pingedLeft, waitLeft, Fits}
 
 module _ (f d : ℕ) where
   -- ---- after an acknowledgement or a pause
 
   -- a limit is written, or what follows comes at once
-  limit-fits : (m id : ℕ) (w : ℕ) (k : Acked) (n : Node) → four f d + ackedLeft f d k ≤ m → Fits f d m n → Fits f d m (limit id w k n)
+  limit-fits : (m id : ℕ) (w : ℕ) (k : Acked) (n : Node) → four f d + ackedLeft f d k ≤ m → Fits f d m n → Fits f d m (putLimit id w k n)
   limit-fits m id w k n h g = by-test (λ t x. Fits f d m x) (isUsable (absOf w)) (λ e. (h, tt)) (λ e. g)
 
   -- one attempt of those left, or 18
@@ -149,8 +150,8 @@ module _ (f d : ℕ) where
   got-fits s got.Flag v = flag-fits v
   got-fits s got.F32 v = float-fits 0 (floatIn v) _ (λ w. (omega arith, tt))
   got-fits s got.I8 v = signed-fits 0 (signedIn v) _ (λ n. (omega arith, tt))
-  got-fits s got.Mode v = mode-fits 0 (modeIn (signedIn v)) _ (λ m. (omega arith, tt))
-  got-fits s (got.StopMode timeout) v = mode-fits (8 * (f + d)) (modeIn (signedIn v)) _ (stop-fits timeout)
+  got-fits s got.Mode v = signed-fits 0 (signedIn v) _ (λ n. mode-fits 0 (controlModeFromRaw n) _ (λ m. (omega arith, tt)))
+  got-fits s (got.StopMode timeout) v = signed-fits (8 * (f + d)) (signedIn v) _ (λ n. mode-fits (8 * (f + d)) (controlModeFromRaw n) _ (stop-fits timeout))
   got-fits s got.StopCsp v = float-fits (4 * (f + d)) (floatIn v) _ (λ w. (omega arith, tt))
   got-fits s got.StopMit v = float-fits f (floatIn v) _ (λ w. (omega arith, tt))
   got-fits s (got.EnsureFirst a) v = first-fits a (signedIn v)

@@ -1,5 +1,5 @@
--- The nodes of operations: each fails by 16, 17, 18 or 20, if it fails, and writes what the encoder takes, if it writes. Assumes
--- nothing.
+-- The nodes of operations: each fails by 16, 17, 18 or 20, if it fails, and writes what the encoder takes, if it writes; no other request
+-- of theirs is a write. Assumes nothing.
 use Prim.Native.Nat.{ℕ, zero, suc}
 use mathlib.Core.Path.{_≡_, refl}
 use mathlib.Core.Bool.{Bool, true, false, cond}
@@ -37,26 +37,41 @@ use Rattle.motor.specs.declared.engine.node.Node.{Node}
 use Rattle.motor.specs.declared.engine.node.Node.the-variants as node
 use Rattle.motor.specs.declared.engine.node.Pinged.{Pinged}
 use Rattle.motor.specs.declared.engine.node.Pinged.the-variants as pinged
+use Rattle.motor.specs.declared.engine.node.Request.{Request}
+use Rattle.motor.specs.declared.engine.node.Request.the-variants as request
 use Rattle.motor.specs.declared.engine.node.Wait.{Wait}
 use Rattle.motor.specs.declared.engine.node.Wait.the-variants as wait
 use Rattle.motor.specs.Calls.{encodes}
 use Rattle.motor.specs.engine.Operations.{ackedOf, notAcked, gotValue, noValue, gotPing, windowsGone}
+use Rattle.motor.specs.engine.Run.{requestOf}
 use Rattle.motor.specs.engine.Script.{asMode, modeOr17, signedIn, floatIn, asFlag, asSigned, asFloat, stopIn, isUsable, absOf, isMode, firstRead, backRead, tryIn, ensureAcked}
 
 -- the numbers by which an operation may fail
 abbrev pub endsBy : Refusal → Bool
 endsBy r = among (numberOf r) (16 ∷ 17 ∷ 18 ∷ 20 ∷ [])
 
--- a node whose refusal, if it has one, is among them, and whose write the encoder takes
+abbrev pub isWrite : Request → Bool
+isWrite request.Ping = false
+isWrite request.Enable = false
+isWrite request.Disable = false
+isWrite request.ClearError = false
+isWrite request.SetZeroPosition = false
+isWrite (request.Read id) = false
+isWrite (request.Write id raw) = true
+isWrite request.SaveParameters = false
+isWrite (request.ActiveReport on) = false
+isWrite (request.SetProtocol protocol) = false
+
+-- a node whose refusal, if it has one, is among them, whose write the encoder takes, and whose other requests are no writes
 abbrev pub Good : Node → Type 0
 Good (node.Finish r) = Unit {0}
 Good node.Report = Unit {0}
 Good node.ClearFault = Unit {0}
 Good (node.Fail r) = endsBy r ≡ true
 Good (node.Pause d k) = Unit {0}
-Good (node.Last r) = Unit {0}
+Good (node.Last r) = isWrite r ≡ false
 Good (node.Write id v k) = encodes (encodeParameterValue id v) ≡ checked.Passed
-Good (node.Await w window whom) = Unit {0}
+Good (node.Await w window whom) = isWrite (requestOf w) ≡ false
 Good (node.Motion p v kp kd t r) = Unit {0}
 Good (node.Rename new) = Unit {0}
 
@@ -84,10 +99,10 @@ as-mode-good signed.Another k g = refl
 
 stop-good : (timeout : ℕ) (m : ControlMode) → Good (stopIn timeout m)
 unfolding parameterInfo kindOf among listedIds int8Ids uint8Ids uint16Ids uint32Ids
-stop-good timeout mode.Mit = tt
+stop-good timeout mode.Mit = refl
 stop-good timeout mode.Position = refl
 stop-good timeout mode.Velocity = refl
-stop-good timeout mode.PositionCsp = tt
+stop-good timeout mode.PositionCsp = refl
 
 try-good : (left : ℕ) (a : Aim) → Good (tryIn left a)
 unfolding parameterInfo kindOf among listedIds int8Ids
@@ -98,7 +113,7 @@ ensure-good : (stage : Ensure) (a : Aim) → Good (ensureAcked stage a)
 ensure-good ensure.Off a = tt
 ensure-good ensure.Try a = try-good (a .left) a
 ensure-good ensure.Written a = tt
-ensure-good ensure.Back a = tt
+ensure-good ensure.Back a = refl
 
 pub ok-good : (k : Acked) → Good (ackedOf k)
 unfolding parameterInfo kindOf among listedIds int8Ids uint8Ids uint16Ids uint32Ids
@@ -106,9 +121,9 @@ ok-good acked.Done = tt
 ok-good acked.FaultCleared = tt
 ok-good acked.ZeroState = refl
 ok-good (acked.Stopped m) = tt
-ok-good (acked.CspEnable position most) = tt
+ok-good (acked.CspEnable position most) = refl
 ok-good (acked.CspLimit position most) = either-good (isUsable (absOf most)) _ _ refl refl
-ok-good (acked.PpEnable position most acceleration) = tt
+ok-good (acked.PpEnable position most acceleration) = refl
 ok-good (acked.PpVelocity position most acceleration) =
     either-good (isUsable (absOf most)) _ _ refl (either-good (isUsable (absOf acceleration)) _ _ refl refl)
 ok-good (acked.PpAcceleration position acceleration) = either-good (isUsable (absOf acceleration)) _ _ refl refl
@@ -133,8 +148,8 @@ lost-good (acked.Ensure ensure.Written a) = tt
 lost-good (acked.Ensure ensure.Back a) = refl
 
 first-good : (a : Aim) (v : SignedIn) → Good (firstRead a v)
-first-good a (signed.Signed v) = either-good (isMode a v) _ _ tt tt
-first-good a signed.Another = tt
+first-good a (signed.Signed v) = either-good (isMode a v) _ _ tt refl
+first-good a signed.Another = refl
 
 back-good : (a : Aim) (v : SignedIn) → Good (backRead a v)
 back-good a (signed.Signed v) = either-good (isMode a v) _ _ tt tt
@@ -181,7 +196,7 @@ lost-got-good got.Mode = refl
 lost-got-good (got.StopMode timeout) = refl
 lost-got-good got.StopCsp = refl
 lost-got-good got.StopMit = refl
-lost-got-good (got.EnsureFirst a) = tt
+lost-got-good (got.EnsureFirst a) = refl
 lost-got-good (got.EnsureBack a) = tt
 
 pub pinged-good : (k : Pinged) → Good (gotPing k)

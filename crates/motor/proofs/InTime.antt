@@ -18,15 +18,15 @@ use Rattle.motor.proofs.engine.Choices.{cond-no}
 use Rattle.motor.specs.declared.engine.operation.Move.{Move}
 use Rattle.motor.specs.engine.Run.{tooLate, inTime}
 use Rattle.motor.specs.Numbers.{firstOf}
-use Rattle.motor.specs.Receive.{isLate}
+use Rattle.motor.specs.Receive.{isOutOfTime}
 
 -- the first test of a list that passes isn't true
 first-false : (b : Bool) (r : Refusal) (tests : List (Bool × Refusal)) → firstOf ((b, r) ∷ tests) ≡ checked.Passed → b ≡ false
 first-false true r tests e = let z : _≡_ {A = ℕ} 0 1 = cc in absurd (omega arith)
 first-false false r tests e = refl
 
-not-late : (clock now : ℕ) → isLate clock now ≡ false → now ≤ latestTime
-unfolding isLate
+not-late : (clock now : ℕ) → isOutOfTime clock now ≡ false → now ≤ latestTime
+unfolding isOutOfTime
 not-late clock now e = ltb-false latestTime now (second (ltb now clock) (ltb latestTime now) e)
   where
     second : (a b : Bool) → (a || b) ≡ false → b ≡ false
@@ -38,10 +38,10 @@ admitted-passed checked.Passed b e = refl
 admitted-passed (checked.Refused r) b e = e
 
 pub start-in-time : (clock : ℕ) (p : Phase) (c : Command) (now : ℕ) → startSaid clock p c now ≡ checked.Passed → now ≤ latestTime
-start-in-time clock p c now e = not-late clock now (first-false (isLate clock now) _ ((not (isIdle p), refusal.OperationRunning) ∷ (ltb longestTimeout (timeoutOf c), refusal.TimeoutTooLong) ∷ []) (admitted-passed (startAdmitted clock p c now) (arguedOf c) e))
+start-in-time clock p c now e = not-late clock now (first-false (isOutOfTime clock now) _ ((not (isIdle p), refusal.OperationRunning) ∷ (ltb longestTimeout (timeoutOf c), refusal.TimeoutTooLong) ∷ []) (admitted-passed (startAdmitted clock p c now) (arguedOf c) e))
 
 pub step-in-time : (clock : ℕ) (p : Phase) (now : ℕ) → stepSaid clock p now ≡ checked.Passed → now ≤ latestTime
-step-in-time clock p now e = not-late clock now (first-false (isLate clock now) _ ((isIdle p, refusal.NothingRunning) ∷ []) e)
+step-in-time clock p now e = not-late clock now (first-false (isOutOfTime clock now) _ ((isIdle p, refusal.NothingRunning) ∷ []) e)
 
 -- a move in time is made
 pub made : (now : ℕ) (v : Move) → now ≤ latestTime → inTime now v ≡ v

@@ -4,6 +4,7 @@ pub mod Entries
 pub mod Lookups
 pub mod Chains
 pub mod Search
+pub mod Sites
 pub mod Links
 pub mod FirstChain
 pub mod Walks
@@ -14,6 +15,7 @@ pub mod ReadingsTheorems
 pub mod LoneOperating
 pub mod InTime
 pub mod FirstOf
+pub mod AnswerNumbers
 pub mod Receiving
 pub mod Editing
 pub mod LoneReceiving
@@ -23,11 +25,13 @@ pub mod ReceivingExamples
 pub mod Measures
 pub mod Follows
 pub mod MovesBounded
+pub mod Pauses
 pub mod Bounds
 pub mod GoodNodes
 pub mod Commands
 pub mod Ends
 pub mod Stays
 pub mod Clock
+pub mod Writes
 pub mod Looks
 pub mod Echo

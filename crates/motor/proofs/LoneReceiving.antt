@@ -15,7 +15,7 @@ use Rattle.motor.specs.declared.readings.Readings.{Readings}
 use Rattle.motor.specs.declared.receive.Heard.{Heard}
 use Rattle.motor.specs.Numbers.{firstOf}
 use Rattle.motor.specs.Readings.{insert, room, Holds, putOf}
-use Rattle.motor.specs.Receive.{acceptsFrame, isLate, isRead, readStatus, readId, readStored, frameSaid, stateAfter, readingsAfter, isFull, processFeedbackFrame}
+use Rattle.motor.specs.Receive.{acceptsFrame, isOutOfTime, isRead, readStatus, readId, readStored, frameSaid, stateAfter, readingsAfter, isFull, processFeedbackFrame}
 use Rattle.motor.specs.Lone.{hears}
 use Rattle.motor.specs.Motors.{loneOf, HeardAs}
 use Rattle.motor.proofs.ReadingsHeld.{put-holds, put-full}
@@ -23,7 +23,7 @@ use Rattle.motor.proofs.ReadingsHeld.{put-holds, put-full}
 -- with no room the readings stay, whatever is said
 full-leaves : {A : Type 0} (s : State) (f : CanFrame) (now : ℕ) (new old : A) → readingsAfter (frameSaid s f now true) f new old ≡ old
 unfolding frameSaid readingsAfter
-full-leaves s f now new old = go (acceptsFrame (s .«motor_id») f) (isLate (s .clock) now) (isRead f) (eqb (readStatus f) 0) refl
+full-leaves s f now new old = go (acceptsFrame (s .«motor_id») f) (isOutOfTime (s .clock) now) (isRead f) (eqb (readStatus f) 0) refl
   where
     go : (a l r z : Bool) → isRead f ≡ r
         → readingsAfter (firstOf ((not a, FrameNotAccepted) ∷ (l, TimeOutOfRange) ∷ (r && not z, ReadFailed (readId f) (readStatus f)) ∷ (r && true, ReadingsFull) ∷ [])) f new old ≡ old

@@ -1,19 +1,22 @@
 -- What a motor answers to a frame, case by case in the numbers' order. Assumes nothing.
 use Prim.Native.Nat.{ℕ}
-use mathlib.Core.Path.{_≡_, refl, sym, subst}
+use mathlib.Core.Path.{_≡_, refl, sym, ap, subst, _∙_}
 use mathlib.Core.Bool.{Bool, true, false}
 use borrow.Author.Tests.{eqb-true, eq-eqb, ne-eqb}
 use Rattle.codec.specs.declared.bus.CanFrame.{CanFrame}
 use Rattle.codec.specs.declared.error.Refusal.the-variants.{FrameNotAccepted, TimeOutOfRange, ReadFailed, ReadingsFull}
 use Rattle.codec.specs.declared.error.Checked.{Checked}
 use Rattle.codec.specs.declared.error.Checked.the-variants.{Passed, Refused}
+use Rattle.codec.specs.declared.protocol.IdParts.{IdParts}
 use Rattle.codec.specs.Kinds.{among}
 use Rattle.motor.specs.declared.motor.State.{State}
 use Rattle.motor.specs.declared.motor.Motor.{Motor}
+use Rattle.motor.specs.declared.quiet.StateHeard.{StateHeard}
+use Rattle.motor.specs.declared.readings.Readings.{Readings}
 use Rattle.motor.specs.declared.readings.PutResult.{PutResult}
 use Rattle.motor.specs.declared.readings.PutAnswer.the-variants.{Kept, Full}
 use Rattle.motor.specs.Readings.{putOf}
-use Rattle.motor.specs.Receive.{partsOf, frameType, acceptsFrame, isLate, countedAt, feedbackAfter, faultAfter, pingAfter, toldBy, isRead, readStatus, readId, readStored, frameSaid, stateAfter, readingsAfter, heardWith, processFeedbackFrame, frameAdmitted, admittedTo, hearStateBy, hearState}
+use Rattle.motor.specs.Receive.{partsOf, frameType, acceptsFrame, isOutOfTime, countedAt, feedbackAfter, faultAfter, pingAfter, toldBy, isRead, readStatus, readId, readStored, frameSaid, stateAfter, readingsAfter, heardWith, processFeedbackFrame, frameAdmitted, isQuiet, stateHeard, hearState}
 
 -- a read reply tells nothing but its value
 pub read-tells : (s : State) (f : CanFrame) → isRead f ≡ true → toldBy s (partsOf f) f ≡ s
@@ -26,11 +29,11 @@ module _ (m : Motor) (f : CanFrame) (now : ℕ) where
   heard-13 a = rw a
 
   module _ (a : acceptsFrame (m .state .«motor_id») f ≡ true) where
-    pub heard-7 : isLate (m .state .clock) now ≡ true → processFeedbackFrame m f now ≡ heardWith (m .state) (m .readings) (Refused TimeOutOfRange)
+    pub heard-7 : isOutOfTime (m .state .clock) now ≡ true → processFeedbackFrame m f now ≡ heardWith (m .state) (m .readings) (Refused TimeOutOfRange)
     unfolding processFeedbackFrame frameSaid stateAfter readingsAfter among
     heard-7 l = rw (a, l)
 
-    module _ (l : isLate (m .state .clock) now ≡ false) where
+    module _ (l : isOutOfTime (m .state .clock) now ≡ false) where
       pub heard-other : isRead f ≡ false → processFeedbackFrame m f now ≡ heardWith (toldBy (countedAt (m .state) now) (partsOf f) f) (m .readings) Passed
       unfolding processFeedbackFrame frameSaid stateAfter readingsAfter
       heard-other r = rw (a, l, r, r)
@@ -52,28 +55,80 @@ module _ (m : Motor) (f : CanFrame) (now : ℕ) where
 
 -- ---- 13 and 7 of a frame whose id is split
 
+abbrev pub admittedTo : State → IdParts → CanFrame → ℕ → Checked
+admittedTo s p f now = frameAdmitted (s .«motor_id») (s .clock) (f .«is_extended») p now
+
 module _ (s : State) (f : CanFrame) (now : ℕ) where
   pub admitted-13 : acceptsFrame (s .«motor_id») f ≡ false → admittedTo s (partsOf f) f now ≡ Refused FrameNotAccepted
   unfolding frameAdmitted acceptsFrame
   admitted-13 a = rw a
 
-  pub admitted-7 : acceptsFrame (s .«motor_id») f ≡ true → isLate (s .clock) now ≡ true → admittedTo s (partsOf f) f now ≡ Refused TimeOutOfRange
+  pub admitted-7 : acceptsFrame (s .«motor_id») f ≡ true → isOutOfTime (s .clock) now ≡ true → admittedTo s (partsOf f) f now ≡ Refused TimeOutOfRange
   unfolding frameAdmitted acceptsFrame
   admitted-7 a l = rw (a, l)
 
-  pub admitted : acceptsFrame (s .«motor_id») f ≡ true → isLate (s .clock) now ≡ false → admittedTo s (partsOf f) f now ≡ Passed
+  pub admitted : acceptsFrame (s .«motor_id») f ≡ true → isOutOfTime (s .clock) now ≡ false → admittedTo s (partsOf f) f now ≡ Passed
   unfolding frameAdmitted acceptsFrame
   admitted a l = rw (a, l)
+
+-- ---- the state alone
+
+state-untaken : (s : State) (f : CanFrame) (now : ℕ) → isRead f ≡ true → hearState s f now ≡ stateHeard s (Refused FrameNotAccepted)
+unfolding hearState
+state-untaken s f now r = rw r
+
+abbrev pub hearStateBy : Checked → State → IdParts → CanFrame → ℕ → StateHeard
+hearStateBy Passed s p f now = stateHeard (toldBy (countedAt s now) p f) Passed
+hearStateBy (Refused r) s p f now = stateHeard s (Refused r)
+
+-- a frame that is no read reply, by its admission
+state-by : (s : State) (f : CanFrame) (now : ℕ) → isRead f ≡ false → hearState s f now ≡ hearStateBy (admittedTo s (partsOf f) f now) s (partsOf f) f now
+unfolding hearState frameSaid stateAfter among
+state-by s f now r = go (acceptsFrame (s .«motor_id») f) (isOutOfTime (s .clock) now) refl refl
+  where
+    by : Checked → Type 0
+    by k = hearState s f now ≡ hearStateBy k s (partsOf f) f now
+
+    go : (a l : Bool) → acceptsFrame (s .«motor_id») f ≡ a → isOutOfTime (s .clock) now ≡ l → by (admittedTo s (partsOf f) f now)
+    go false l p q = subst by (sym (admitted-13 s f now p)) (rw (r, p))
+    go true true p q = subst by (sym (admitted-7 s f now p q)) (rw (r, p, q))
+    go true false p q = subst by (sym (admitted s f now p q)) (rw (r, p, q))
+
+module _ (s : State) (f : CanFrame) (now : ℕ) where
+  abbrev quietly : Checked
+  quietly = frameAdmitted (s .«motor_id») (s .clock) (isQuiet (f .«is_extended») (partsOf f)) (partsOf f) now
+
+  -- a read reply is 13, and any other frame is admitted as it is
+  quiet-13 : isRead f ≡ true → quietly ≡ Refused FrameNotAccepted
+  unfolding frameAdmitted isQuiet isRead
+  quiet-13 r = go (f .«is_extended»)
+    where
+      go : (e : Bool) → frameAdmitted (s .«motor_id») (s .clock) (isQuiet e (partsOf f)) (partsOf f) now ≡ Refused FrameNotAccepted
+      go true = rw r
+      go false = refl
+
+  quiet-same : isRead f ≡ false → quietly ≡ admittedTo s (partsOf f) f now
+  unfolding frameAdmitted isQuiet isRead
+  quiet-same r = go (f .«is_extended»)
+    where
+      go : (e : Bool) → frameAdmitted (s .«motor_id») (s .clock) (isQuiet e (partsOf f)) (partsOf f) now ≡ frameAdmitted (s .«motor_id») (s .clock) e (partsOf f) now
+      go true = rw r
+      go false = refl
+
+  pub state-heard-by : hearState s f now ≡ hearStateBy quietly s (partsOf f) f now
+  state-heard-by = go (isRead f) refl
+    where
+      go : (b : Bool) → isRead f ≡ b → hearState s f now ≡ hearStateBy quietly s (partsOf f) f now
+      go true r = state-untaken s f now r ∙ sym (ap (λ (k : Checked). hearStateBy k s (partsOf f) f now) (quiet-13 r))
+      go false r = state-by s f now r ∙ sym (ap (λ (k : Checked). hearStateBy k s (partsOf f) f now) (quiet-same r))
+
+quiet-leaves : (said : Checked) (f : CanFrame) (new old : Readings) → isRead f ≡ false → readingsAfter said f new old ≡ old
+unfolding readingsAfter
+quiet-leaves Passed f new old r = rw r
+quiet-leaves (Refused k) f new old r = refl
 
 -- a frame that is no read reply concerns the state alone
 pub heard-quiet : (m : Motor) (f : CanFrame) (now : ℕ) → isRead f ≡ false
     → processFeedbackFrame m f now ≡ heardWith (hearState (m .state) f now .state) (m .readings) (hearState (m .state) f now .said)
-heard-quiet m f now r = go (acceptsFrame (m .state .«motor_id») f) (isLate (m .state .clock) now) refl refl
-  where
-    by : Checked → Type 0
-    by k = processFeedbackFrame m f now ≡ heardWith (hearStateBy k (m .state) (partsOf f) f now .state) (m .readings) (hearStateBy k (m .state) (partsOf f) f now .said)
-
-    go : (a l : Bool) → acceptsFrame (m .state .«motor_id») f ≡ a → isLate (m .state .clock) now ≡ l → by (admittedTo (m .state) (partsOf f) f now)
-    go false l p q = subst by (sym (admitted-13 (m .state) f now p)) (heard-13 m f now p)
-    go true true p q = subst by (sym (admitted-7 (m .state) f now p q)) (heard-7 m f now p q)
-    go true false p q = subst by (sym (admitted (m .state) f now p q)) (heard-other m f now p q r)
+unfolding processFeedbackFrame hearState frameSaid
+heard-quiet m f now r = rw (r, quiet-leaves _ f _ (m .readings) r)

@@ -14,7 +14,7 @@ use Rattle.motor.specs.declared.feedback.Latest.the-variants as latest
 use Rattle.motor.specs.declared.motor.HeldFault.the-variants as fault
 use Rattle.motor.specs.declared.motor.Motor.{Motor}
 use Rattle.motor.specs.declared.readings.Readings.{Readings}
-use Rattle.motor.specs.Receive.{partsOf, acceptsFrame, isLate, countedAt, pingAfter, feedbackIn, nextSequence, feedbackAfter, faultAfter, toldBy, isRead, frameSaid, stateAfter, readingsAfter, processFeedbackFrame}
+use Rattle.motor.specs.Receive.{partsOf, acceptsFrame, isOutOfTime, countedAt, pingAfter, feedbackIn, nextSequence, feedbackAfter, faultAfter, toldBy, isRead, frameSaid, stateAfter, readingsAfter, processFeedbackFrame}
 
 abbrev frame : ℕ → List ℕ → CanFrame
 frame id payload = record { «arbitration_id» = id; «data» = payload; dlc = 8; «is_extended» = true; «is_rx» = true }
@@ -44,15 +44,15 @@ module _ (operation : Operation) (command : Command) (readings : Readings) where
 
   -- response 25 is counted, and nothing more
   pub response-25 : processFeedbackFrame (motor 7 3) (frame 0x190001FD zeros) 100 ≡ record { motor = motor 8 3; said = Passed }
-  unfolding processFeedbackFrame frameSaid stateAfter readingsAfter acceptsFrame isLate among countedAt toldBy pingAfter feedbackAfter faultAfter isRead
+  unfolding processFeedbackFrame frameSaid stateAfter readingsAfter acceptsFrame isOutOfTime among countedAt toldBy pingAfter feedbackAfter faultAfter isRead
   response-25 = refl
 
   pub count-wraps : processFeedbackFrame (motor (2 ^ 64 - 1) 3) (frame 0x190001FD zeros) 100 ≡ record { motor = motor 0 3; said = Passed }
-  unfolding processFeedbackFrame frameSaid stateAfter readingsAfter acceptsFrame isLate among countedAt toldBy pingAfter feedbackAfter faultAfter isRead
+  unfolding processFeedbackFrame frameSaid stateAfter readingsAfter acceptsFrame isOutOfTime among countedAt toldBy pingAfter feedbackAfter faultAfter isRead
   count-wraps = refl
 
   pub sequence-stays : processFeedbackFrame (motor 7 (2 ^ 64 - 1)) (frame 0x028001FD zeros) 100 .motor .state .feedback .sequence ≡ 2 ^ 64 - 1
-  unfolding processFeedbackFrame frameSaid stateAfter acceptsFrame isLate among countedAt toldBy feedbackAfter nextSequence isRead
+  unfolding processFeedbackFrame frameSaid stateAfter acceptsFrame isOutOfTime among countedAt toldBy feedbackAfter nextSequence isRead
   sequence-stays = refl
 
   -- a version reply is feedback like any other
@@ -61,5 +61,5 @@ module _ (operation : Operation) (command : Command) (readings : Readings) where
 
   pub version-is-feedback : (isVersionReply 0x020001FD (version .data) ≡ true)
       × (processFeedbackFrame (motor 7 3) version 100 .motor .state .feedback ≡ record { latest = latest.State (feedbackIn Rs00 (partsOf version) version); sequence = 4 })
-  unfolding processFeedbackFrame frameSaid stateAfter acceptsFrame isLate among countedAt toldBy feedbackAfter nextSequence isRead
+  unfolding processFeedbackFrame frameSaid stateAfter acceptsFrame isOutOfTime among countedAt toldBy feedbackAfter nextSequence isRead
   version-is-feedback = (refl, refl)

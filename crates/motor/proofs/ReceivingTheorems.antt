@@ -20,7 +20,8 @@ use Rattle.motor.specs.declared.motor.Motor.{Motor}
 use Rattle.motor.specs.declared.readings.Entry.{Entry}
 use Rattle.motor.specs.declared.readings.Readings.{Readings}
 use Rattle.motor.specs.Readings.{entry, insert, room, putOf}
-use Rattle.motor.specs.Receive.{acceptsFrame, isLate, countedAt, pingAfter, feedbackIn, feedbackAfter, faultAfter, toldBy, isRead, readStatus, readId, readStored, frameSaid, stateAfter, readingsAfter, isFull, processFeedbackFrame}
+use Rattle.motor.specs.Receive.{acceptsFrame, isOutOfTime, countedAt, pingAfter, feedbackIn, feedbackAfter, faultAfter, toldBy, isRead, readStatus, readId, readStored, frameSaid, stateAfter, readingsAfter, isFull, processFeedbackFrame}
+use Rattle.motor.specs.Echo.{heldKind}
 use Rattle.motor.specs.Lone.{Lone, hears}
 
 -- ---- the operation and its command are as they were
@@ -70,7 +71,7 @@ module _ (f : CanFrame) (dlc : ℕ) (rx : Bool) where
 
 -- ---- an accepted frame in time is counted, whatever its type and number
 
-module _ (s : State) (f : CanFrame) (now : ℕ) (full : Bool) (a : acceptsFrame (s .«motor_id») f ≡ true) (l : isLate (s .clock) now ≡ false) where
+module _ (s : State) (f : CanFrame) (now : ℕ) (full : Bool) (a : acceptsFrame (s .«motor_id») f ≡ true) (l : isOutOfTime (s .clock) now ≡ false) where
   state-counts : (stateAfter (frameSaid s f now full) s f now .clock ≡ now) × (stateAfter (frameSaid s f now full) s f now .responses ≡ (s .responses + 1) % 2 ^ 64)
   unfolding frameSaid stateAfter toldBy countedAt among
   state-counts = rw (a, l) (go (isRead f && not (eqb (readStatus f) 0)) (isRead f && full))
@@ -83,15 +84,12 @@ module _ (s : State) (f : CanFrame) (now : ℕ) (full : Bool) (a : acceptsFrame 
       go false true = (refl, refl)
       go false false = (refl, refl)
 
-pub frame-counts : (m : Motor) (f : CanFrame) (now : ℕ) → acceptsFrame (m .state .«motor_id») f ≡ true → isLate (m .state .clock) now ≡ false
+pub frame-counts : (m : Motor) (f : CanFrame) (now : ℕ) → acceptsFrame (m .state .«motor_id») f ≡ true → isOutOfTime (m .state .clock) now ≡ false
     → (processFeedbackFrame m f now .motor .state .clock ≡ now) × (processFeedbackFrame m f now .motor .state .responses ≡ (m .state .responses + 1) % 2 ^ 64)
 unfolding processFeedbackFrame
 frame-counts m f now = state-counts (m .state) f now (isFull (putOf (m .readings) (readId f) (readStored f) .said))
 
 -- ---- the kind of what is held: the table's, and UInt32 for an unlisted id
-
-unfoldable pub heldKind : ℕ → ParameterDataType
-heldKind id = cond (among id listedIds) (kindOf id) UInt32
 
 kind-in : (k : ParameterDataType) (raw : ℕ) → kindIn (valueAs k raw) ≡ k
 kind-in Int8 raw = refl

@@ -17,16 +17,16 @@ use Rattle.motor.proofs.Chains.{last}
 -- ---- one step
 
 module _ (r : List Reading) (id : ℕ) where
-  seek-stop : (k p : ℕ) → before r id (nextAt r p) ≡ false → seekFrom k r id p ≡ p
+  pub seek-stop : (k p : ℕ) → before r id (nextAt r p) ≡ false → seekFrom k r id p ≡ p
   unfolding seekFrom
   seek-stop zero p e = refl
   seek-stop (suc k) p e = rw e
 
-  seek-on : (k p : ℕ) → before r id (nextAt r p) ≡ true → seekFrom (suc k) r id p ≡ seekFrom k r id (nextAt r p)
+  pub seek-on : (k p : ℕ) → before r id (nextAt r p) ≡ true → seekFrom (suc k) r id p ≡ seekFrom k r id (nextAt r p)
   unfolding seekFrom
   seek-on k p e = rw e
 
-  before-in : (n : ℕ) → (n ≡ 0 → ⊥) → n ≤ mostReadings → before r id n ≡ ltb (idAt r n) id
+  pub before-in : (n : ℕ) → (n ≡ 0 → ⊥) → n ≤ mostReadings → before r id n ≡ ltb (idAt r n) id
   before-in n a b = rw (ne-eqb n 0 a, le-ltb mostReadings n b)
 
   pub stop-zero : (k p : ℕ) → nextAt r p ≡ 0 → seekFrom k r id p ≡ p

@@ -24,7 +24,7 @@ use Rattle.motor.specs.Commands.{Argument, noArgument, namedHost, newDev
 use Rattle.motor.specs.Limits.{longestTimeout}
 use Rattle.motor.specs.Calls.{isIdle, timeoutOf, arguedOf, encodes, tested, orElse, startAdmitted, startSaid, stepSaid}
 use Rattle.motor.specs.Numbers.{firstOf}
-use Rattle.motor.specs.Receive.{isLate}
+use Rattle.motor.specs.Receive.{isOutOfTime}
 
 -- ---- the numbers
 
@@ -57,7 +57,7 @@ two-stay false false r s p q = tt
 
 admitted-stays : (clock : ℕ) (p : Phase) (c : Command) (now : ℕ) → Stays (startAdmitted clock p c now)
 unfolding among
-admitted-stays clock p c now = go (isLate clock now) (not (isIdle p)) (ltb longestTimeout (timeoutOf c))
+admitted-stays clock p c now = go (isOutOfTime clock now) (not (isIdle p)) (ltb longestTimeout (timeoutOf c))
   where
     go : (a b d : Bool) → Stays (firstOf ((a, refusal.TimeOutOfRange) ∷ (b, refusal.OperationRunning) ∷ (d, refusal.TimeoutTooLong) ∷ []))
     go true b d = refl
@@ -74,7 +74,7 @@ unfolding among
 written-stays info.Unlisted v = refl
 written-stays (info.Listed kind) v = go (eqb (kindNumber kind) (kindNumber (kindIn v)))
   where
-    go : (b : Bool) → Stays (encodes (cond b (encoded.Raw (rawOf v)) (encoded.Refused refusal.KindDiffers)))
+    go : (b : Bool) → Stays (encodes (cond (not b) (encoded.Refused refusal.KindDiffers) (encoded.Raw (rawOf v))))
     go true = tt
     go false = refl
 
@@ -95,7 +95,7 @@ start-stays clock p c now = go (startAdmitted clock p c now) (admitted-stays clo
 
 pub step-stays : (clock : ℕ) (p : Phase) (now : ℕ) → Stays (stepSaid clock p now)
 unfolding among
-step-stays clock p now = two-stay (isLate clock now) (isIdle p) refusal.TimeOutOfRange refusal.NothingRunning refl refl
+step-stays clock p now = two-stay (isOutOfTime clock now) (isIdle p) refusal.TimeOutOfRange refusal.NothingRunning refl refl
 
 -- what passes has passed the argument tests; what may step runs
 

@@ -11,6 +11,8 @@ use Rattle.codec.specs.declared.model.Model.{Model}
 use Rattle.motor.specs.declared.engine.command.Command.{Command}
 use Rattle.motor.specs.declared.engine.command.Said.{Said}
 use Rattle.motor.specs.declared.engine.command.Said.the-variants as said
+use Rattle.motor.specs.declared.engine.operation.Phase.{Phase}
+use Rattle.motor.specs.declared.engine.operation.Phase.the-variants as phase
 use Rattle.motor.specs.Limits.{longestTimeout, mostDueSteps, mostFrames}
 use Rattle.motor.specs.Commands.{commandRow}
 use Rattle.motor.specs.Calls.{isIdle, startSaid, stepSaid}
@@ -25,15 +27,15 @@ pub data LoneEvent : Type 0 where
   frame : CanFrame → ℕ → LoneEvent
   other : LoneEvent
 
-abbrev pub after : Lone → LoneEvent → Lone
-after l (start c now) = loneStart l c now .lone
-after l (step now) = loneStep l now .lone
-after l (frame f now) = hears l f now .lone
-after l other = l
+abbrev pub afterEvent : Lone → LoneEvent → Lone
+afterEvent l (start c now) = loneStart l c now .lone
+afterEvent l (step now) = loneStep l now .lone
+afterEvent l (frame f now) = hears l f now .lone
+afterEvent l other = l
 
-abbrev pub afterAll : Lone → List LoneEvent → Lone
-afterAll l [] = l
-afterAll l (e ∷ es) = afterAll (after l e) es
+abbrev pub afterEvents : Lone → List LoneEvent → Lone
+afterEvents l [] = l
+afterEvents l (e ∷ es) = afterEvents (afterEvent l e) es
 
 -- ---- what is counted
 
@@ -69,12 +71,12 @@ once b = cond b 1 0
 -- how many of these events pass the test, as long as the operation runs
 abbrev pub count : (Lone → LoneEvent → Bool) → Lone → List LoneEvent → ℕ
 count test l [] = 0
-count test l (e ∷ es) = cond (isIdle (l .state .operation .phase)) 0 (once (test l e) + count test (after l e) es)
+count test l (e ∷ es) = cond (isIdle (l .state .operation .phase)) 0 (once (test l e) + count test (afterEvent l e) es)
 
 -- ---- the most frames of each operation
 
-abbrev pub limitOf : Command → ℕ
-limitOf c = commandRow c .most
+abbrev pub mostFramesOf : Command → ℕ
+mostFramesOf c = commandRow c .most
 
 -- ---- due times
 
@@ -89,21 +91,29 @@ GivenWithin most now (said.Refused r) due = Unit {0}
 abbrev pub Given : ℕ → LoneAnswered → Type 0
 Given now a = GivenWithin longestTimeout now (a .said) (a .lone .state .operation .due)
 
+-- ---- pauses
+
+-- the operation stands in a pause
+abbrev pub isPausing : Phase → Bool
+isPausing phase.Idle = false
+isPausing (phase.Pausing k) = true
+isPausing (phase.Waiting w) = false
+
 -- ---- the theorem
 
 abbrev pub Accepted : Lone → Command → ℕ → Type 0
 Accepted l c now = startSaid (l .state .clock) (l .state .operation .phase) c now ≡ checked.Passed
 
 -- No operation sends more than 32 frames or needs more than 40 due steps, whatever comes after its start. A step at or after the due time
--- never answers waiting, save with a later due time. Every due time that a motor gives lies between now and now + 60,000
+-- never answers waiting, save to begin a pause with a later due time. Every due time that a motor gives lies between now and now + 60,000
 pub record Bounds : Type 0 where
   pub frames : (l : Lone) (c : Command) (now : ℕ) (es : List LoneEvent) → Accepted l c now
-      → once (sends l (start c now)) + count sends (after l (start c now)) es ≤ limitOf c
-  pub limits : (c : Command) → limitOf c ≤ mostFrames
-  pub steps : (l : Lone) (c : Command) (now : ℕ) (es : List LoneEvent) → Accepted l c now → count isDue (after l (start c now)) es ≤ mostDueSteps
+      → once (sends l (start c now)) + count sends (afterEvent l (start c now)) es ≤ mostFramesOf c
+  pub limits : (c : Command) → mostFramesOf c ≤ mostFrames
+  pub steps : (l : Lone) (c : Command) (now : ℕ) (es : List LoneEvent) → Accepted l c now → count isDue (afterEvent l (start c now)) es ≤ mostDueSteps
   pub waits : (l : Lone) (now d : ℕ) → l .state .operation .due ≤ now → loneStep l now .said ≡ said.Waiting d
-      → (now < d) × (l .state .operation .due < d)
+      → (now < d) × (l .state .operation .due < d) × (isPausing (loneStep l now .lone .state .operation .phase) ≡ true)
   pub started : (id host : ℕ) (model : Model) (wait since : ℕ) (es : List LoneEvent) (c : Command) (now : ℕ)
-      → Given now (loneStart (afterAll (loneNew id host model wait since) es) c now)
+      → Given now (loneStart (afterEvents (loneNew id host model wait since) es) c now)
   pub stepped : (id host : ℕ) (model : Model) (wait since : ℕ) (es : List LoneEvent) (now : ℕ)
-      → Given now (loneStep (afterAll (loneNew id host model wait since) es) now)
+      → Given now (loneStep (afterEvents (loneNew id host model wait since) es) now)

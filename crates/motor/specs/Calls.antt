@@ -5,7 +5,6 @@ use mathlib.Core.Bool.{Bool, true, false, not, _||_}
 use mathlib.Core.List.{List, [], _∷_, _++_}
 use lib.Dec.{eqb, ltb}
 use Rattle.codec.specs.declared.error.Refusal.{Refusal}
-use Rattle.codec.specs.declared.error.Refusal.the-variants as refusal
 use Rattle.codec.specs.declared.error.Checked.{Checked}
 use Rattle.codec.specs.declared.error.Checked.the-variants as checked
 use Rattle.codec.specs.declared.model.Model.{Model}
@@ -37,8 +36,8 @@ use Rattle.motor.specs.declared.engine.reading.Found.{Found}
 use Rattle.motor.specs.declared.engine.reading.Found.the-variants as found
 use Rattle.motor.specs.Commands.{Argument, noArgument, namedHost, newDeviceId, newProtocol, writtenValue, commandRow}
 use Rattle.motor.specs.Limits.{longestTimeout, latestTime}
-use Rattle.motor.specs.Numbers.{firstOf}
-use Rattle.motor.specs.Receive.{isLate}
+use Rattle.motor.specs.Numbers.{plain, numbered, firstOf, firstNumber}
+use Rattle.motor.specs.Receive.{isOutOfTime}
 use Rattle.motor.specs.engine.Run.{noOperation}
 
 -- ---- registration: 1, 2, 3, 9, 7
@@ -49,15 +48,15 @@ isUnknown named.Unknown = true
 
 -- motor id not 1..255; host id above 255
 abbrev pub idNumbers : ℕ → ℕ → List (Bool × Refusal)
-idNumbers id host = (eqb id 0 || ltb 255 id, refusal.MotorIdOutOfRange) ∷ (ltb 255 host, refusal.HostIdOutOfRange) ∷ []
+idNumbers id host = numbered [] ((eqb id 0 || ltb 255 id, 1) ∷ (ltb 255 host, 2) ∷ [])
 
 -- wait above 60,000; time above 10^15
 abbrev pub lastNumbers : ℕ → ℕ → List (Bool × Refusal)
-lastNumbers wait now = (ltb longestTimeout wait, refusal.TimeoutTooLong) ∷ (ltb latestTime now, refusal.TimeOutOfRange) ∷ []
+lastNumbers wait now = numbered [] ((ltb longestTimeout wait, 9) ∷ (ltb latestTime now, 7) ∷ [])
 
 -- model unknown, before those
 abbrev pub modelNumbers : ModelNamed → ℕ → ℕ → List (Bool × Refusal)
-modelNumbers model wait now = (isUnknown model, refusal.UnknownModel) ∷ lastNumbers wait now
+modelNumbers model wait now = numbered [] ((isUnknown model, 3) ∷ []) ++ lastNumbers wait now
 
 abbrev pub registerNumbers : ℕ → ℕ → ModelNamed → ℕ → ℕ → List (Bool × Refusal)
 registerNumbers id host model wait now = idNumbers id host ++ modelNumbers model wait now
@@ -65,7 +64,7 @@ registerNumbers id host model wait now = idNumbers id host ++ modelNumbers model
 -- the model, where the tests have passed
 abbrev pub admitted : ModelNamed → Admission
 admitted (named.Known m) = admission.Admitted m
-admitted named.Unknown = admission.Refused refusal.UnknownModel
+admitted named.Unknown = admission.Refused (plain 3)
 
 abbrev pub registeredBy : Checked → ModelNamed → Admission
 registeredBy checked.Passed model = admitted model
@@ -92,11 +91,11 @@ encodes (encoded.Refused r) = checked.Refused r
 
 -- 2: a named host above 255
 abbrev pub hostChecked : ℕ → Checked
-hostChecked host = firstOf ((ltb 255 host, refusal.HostIdOutOfRange) ∷ [])
+hostChecked host = firstNumber ((ltb 255 host, 2) ∷ [])
 
 -- 19: the new device id is 0
 abbrev pub newIdChecked : ℕ → Checked
-newIdChecked new = firstOf ((eqb new 0, refusal.NewDeviceIdZero) ∷ [])
+newIdChecked new = firstNumber ((eqb new 0, 19) ∷ [])
 
 -- what an argument is refused by
 abbrev pub tested : Argument → Checked
@@ -117,20 +116,16 @@ orElse (checked.Refused r) after = checked.Refused r
 
 abbrev pub startAdmitted : ℕ → Phase → Command → ℕ → Checked
 startAdmitted clock phase c now =
-    firstOf
-    ((isLate clock now, refusal.TimeOutOfRange)
-    ∷ (not (isIdle phase), refusal.OperationRunning)
-    ∷ (ltb longestTimeout (timeoutOf c), refusal.TimeoutTooLong)
-    ∷ [])
+    firstNumber ((isOutOfTime clock now, 7) ∷ (not (isIdle phase), 8) ∷ (ltb longestTimeout (timeoutOf c), 9) ∷ [])
 
 abbrev pub startSaid : ℕ → Phase → Command → ℕ → Checked
 startSaid clock phase c now = orElse (startAdmitted clock phase c now) (arguedOf c)
 
 abbrev pub stepSaid : ℕ → Phase → ℕ → Checked
-stepSaid clock phase now = firstOf ((isLate clock now, refusal.TimeOutOfRange) ∷ (isIdle phase, refusal.NothingRunning) ∷ [])
+stepSaid clock phase now = firstNumber ((isOutOfTime clock now, 7) ∷ (isIdle phase, 21) ∷ [])
 
 abbrev pub removeSaid : ℕ → Phase → ℕ → Checked
-removeSaid clock phase now = firstOf ((isLate clock now, refusal.TimeOutOfRange) ∷ (not (isIdle phase), refusal.OperationRunning) ∷ [])
+removeSaid clock phase now = firstNumber ((isOutOfTime clock now, 7) ∷ (not (isIdle phase), 8) ∷ [])
 
 -- ---- what is held at first, and what a move changes
 

@@ -3,12 +3,14 @@ pub mod engine
 pub mod Readings
 pub mod Numbers
 pub mod Receive
+pub mod Echo
 pub mod Edits
 pub mod Commands
 pub mod Calls
 pub mod Lone
 pub mod Motors
 pub mod Bounds
+pub mod Writes
 pub mod Runs
 pub mod RunsOfWaits
 pub mod RunsOfStops

@@ -5,7 +5,6 @@ use mathlib.Core.List.{List, [], _∷_, _++_}
 use Rattle.codec.specs.declared.bus.CanFrame.{CanFrame}
 use Rattle.codec.specs.declared.error.Checked.{Checked}
 use Rattle.codec.specs.declared.error.Checked.the-variants as checked
-use Rattle.codec.specs.declared.error.Refusal.the-variants as refusal
 use Rattle.codec.specs.declared.model.Model.{Model}
 use Rattle.codec.specs.declared.model.ModelNamed.{ModelNamed}
 use Rattle.codec.specs.Replies.{zeros}
@@ -17,7 +16,7 @@ use Rattle.motor.specs.declared.motor.Seen.{Seen}
 use Rattle.motor.specs.declared.motor.State.{State}
 use Rattle.motor.specs.declared.readings.Entry.{Entry}
 use Rattle.motor.specs.Calls.{registerNumbers, newState, sightOf, stateBy, readingsBy, wanted, startSaid, stepSaid, removeSaid}
-use Rattle.motor.specs.Numbers.{firstOf}
+use Rattle.motor.specs.Numbers.{numbered, firstOf}
 use Rattle.motor.specs.Readings.{lookup, insert, remove, room, listing}
 use Rattle.motor.specs.Receive.{frameSaid, stateAfter, readingsAfter, readId, readStored}
 use Rattle.motor.specs.engine.Requests.{noFrame}
@@ -36,7 +35,7 @@ loneNew id host model wait now = record { state = newState id host model wait no
 
 -- registration again answers the first of 1, 2, 3, 9, 7, 5 that applies
 abbrev pub loneAgain : ℕ → ℕ → ModelNamed → ℕ → ℕ → Checked
-loneAgain id host model wait now = firstOf (registerNumbers id host model wait now ++ ((true, refusal.IdRegistered) ∷ []))
+loneAgain id host model wait now = firstOf (registerNumbers id host model wait now ++ numbered [] ((true, 5) ∷ []))
 
 -- ---- start and step
 

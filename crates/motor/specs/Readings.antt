@@ -10,6 +10,7 @@ use Rattle.codec.specs.declared.protocol.ParameterValue.the-variants.{I8}
 use Rattle.motor.specs.declared.engine.reading.Stored.{Stored}
 use Rattle.motor.specs.declared.readings.Reading.{Reading}
 use Rattle.motor.specs.declared.readings.Readings.{Readings}
+use Rattle.motor.specs.declared.readings.Site.{Site}
 use Rattle.motor.specs.declared.readings.Entry.{Entry}
 use Rattle.motor.specs.declared.readings.Listing.{Listing}
 use Rattle.motor.specs.declared.readings.PutResult.{PutResult}
@@ -208,6 +209,31 @@ holderAt records id p =
 
 abbrev pub holderOf : Readings → ℕ → ℕ
 holderOf rs id = holderAt (rs .records) id (seekOf rs id)
+
+-- whether a record has this number
+unfoldable pub isRecord : ℕ → Bool
+isRecord n = cond (eqb n 0) false (cond (ltb mostReadings n) false true)
+
+-- a record's index; the head's for a number that no record has
+unfoldable pub recordIndex : ℕ → ℕ
+recordIndex n = cond (ltb mostReadings n) 0 n
+
+-- the place of id: the record before it, and what is read of the records there
+unfoldable pub siteOf : Readings → ℕ → Site
+siteOf rs id =
+    let next = nextAt (rs .records) (seekOf rs id) in
+    record {
+      before = seekOf rs id;
+      next = next;
+      there = recAt (rs .records) (recordIndex next);
+      free = rs .free;
+      «after_free» = nextAt (rs .records) (recordIndex (rs .free));
+      head = recAt (rs .records) 0;
+    }
+
+-- the record at the place of id where it holds id, else 0
+unfoldable pub holderIn : Site → ℕ → ℕ
+holderIn site id = cond (isRecord (site .next)) (cond (eqb (site .there .id) id) (site .next) 0) 0
 
 unfoldable pub foundAt : Readings → ℕ → Found
 foundAt rs n = cond (eqb n 0) Nothing (Held (recAt (rs .records) n .held))

@@ -3,10 +3,10 @@ use Prim.Native.Nat.{ℕ, _+_, _-_, _*_, _/_, _%_, _^_, min}
 use mathlib.Core.Bool.{Bool, true, false, cond, not, _&&_, _||_}
 use mathlib.Core.List.{List, [], _∷_, _++_}
 use lib.Dec.{eqb, ltb}
+use lib.IntN.{pos}
 use lib.ListN.{getD}
 use Rattle.codec.specs.declared.bus.CanFrame.{CanFrame}
 use Rattle.codec.specs.declared.error.Refusal.{Refusal}
-use Rattle.codec.specs.declared.error.Refusal.the-variants.{FrameNotAccepted, TimeOutOfRange, ReadFailed, ReadingsFull}
 use Rattle.codec.specs.declared.error.Checked.{Checked}
 use Rattle.codec.specs.declared.error.Checked.the-variants.{Passed, Refused}
 use Rattle.codec.specs.declared.model.Model.{Model}
@@ -36,7 +36,7 @@ use Rattle.motor.specs.declared.receive.Arrival.{Arrival}
 use Rattle.motor.specs.declared.receive.Heard.{Heard}
 use Rattle.motor.specs.declared.quiet.StateHeard.{StateHeard}
 use Rattle.motor.specs.Limits.{latestTime}
-use Rattle.motor.specs.Numbers.{firstOf}
+use Rattle.motor.specs.Numbers.{plain, numbered, firstOf, firstNumber}
 use Rattle.motor.specs.Readings.{putOf}
 
 -- ---- a frame's id, split
@@ -58,8 +58,8 @@ unfoldable pub acceptsFrame : ℕ → CanFrame → Bool
 acceptsFrame id f = acceptsParts id (f .«is_extended») (partsOf f)
 
 -- 7: time below the motor's clock, or above 10^15
-unfoldable pub isLate : ℕ → ℕ → Bool
-isLate clock now = ltb now clock || ltb latestTime now
+unfoldable pub isOutOfTime : ℕ → ℕ → Bool
+isOutOfTime clock now = ltb now clock || ltb latestTime now
 
 -- ---- what frames change of the state: the rest of it stays
 
@@ -154,13 +154,15 @@ arrivalOf f = record { source = frameExtra f % 256; accepted = acceptsFrame (fra
 
 -- ---- Frame: 13, 7, 14, 15. `full` where there is no room for the value
 
-abbrev pub frameTests : Bool → Bool → List (Bool × Refusal)
-frameTests accepted late = (not accepted, FrameNotAccepted) ∷ (late, TimeOutOfRange) ∷ []
+abbrev pub frameTests : Bool → Bool → List (Bool × ℕ)
+frameTests accepted outOfTime = (not accepted, 13) ∷ (outOfTime, 7) ∷ []
 
+-- 14 carries the parameter's id and the status
 abbrev pub frameNumbers : State → CanFrame → ℕ → Bool → List (Bool × Refusal)
 frameNumbers s f now full =
-    frameTests (acceptsFrame (s .«motor_id») f) (isLate (s .clock) now)
-    ++ ((isRead f && not (eqb (readStatus f) 0), ReadFailed (readId f) (readStatus f)) ∷ (isRead f && full, ReadingsFull) ∷ [])
+    numbered (pos (readId f) ∷ pos (readStatus f) ∷ [])
+    (frameTests (acceptsFrame (s .«motor_id») f) (isOutOfTime (s .clock) now)
+    ++ ((isRead f && not (eqb (readStatus f) 0), 14) ∷ (isRead f && full, 15) ∷ []))
 
 unfoldable pub frameSaid : State → CanFrame → ℕ → Bool → Checked
 frameSaid s f now full = firstOf (frameNumbers s f now full)
@@ -192,19 +194,19 @@ processFeedbackFrame m f now =
 -- ---- the same of a frame whose id is split: 13 and 7
 
 unfoldable pub frameAdmitted : ℕ → ℕ → Bool → IdParts → ℕ → Checked
-frameAdmitted id clock extended p now = firstOf (frameTests (acceptsParts id extended p) (isLate clock now))
+frameAdmitted id clock extended p now = firstNumber (frameTests (acceptsParts id extended p) (isOutOfTime clock now))
 
-abbrev pub admittedTo : State → IdParts → CanFrame → ℕ → Checked
-admittedTo s p f now = frameAdmitted (s .«motor_id») (s .clock) (f .«is_extended») p now
+-- ---- the state alone: a read reply isn't taken, of any other frame there is nothing to be put
 
--- ---- a frame that is no read reply: the state alone
+-- extended, and no read reply
+unfoldable pub isQuiet : Bool → IdParts → Bool
+isQuiet extended p = extended && not (eqb (p .«comm_type») 17)
 
 abbrev pub stateHeard : State → Checked → StateHeard
 stateHeard state said = record { state = state; said = said }
 
-abbrev pub hearStateBy : Checked → State → IdParts → CanFrame → ℕ → StateHeard
-hearStateBy Passed s p f now = stateHeard (toldBy (countedAt s now) p f) Passed
-hearStateBy (Refused r) s p f now = stateHeard s (Refused r)
+abbrev pub stateHeardBy : Checked → State → CanFrame → ℕ → StateHeard
+stateHeardBy said s f now = stateHeard (stateAfter said s f now) said
 
-abbrev pub hearState : State → CanFrame → ℕ → StateHeard
-hearState s f now = hearStateBy (admittedTo s (partsOf f) f now) s (partsOf f) f now
+unfoldable pub hearState : State → CanFrame → ℕ → StateHeard
+hearState s f now = cond (isRead f) (stateHeard s (Refused (plain 13))) (stateHeardBy (frameSaid s f now false) s f now)

@@ -104,11 +104,11 @@ runs l (frame id payload now ∷ inputs) =
     heard (h .said) ∷ runs (h .lone) inputs
 
 -- the lone motor after inputs
-unfoldable pub after : Lone → List Input → Lone
-after l [] = l
-after l (start c now ∷ inputs) = after (loneStart l c now .lone) inputs
-after l (step now ∷ inputs) = after (loneStep l now .lone) inputs
-after l (frame id payload now ∷ inputs) = after (hears l (received id payload) now .lone) inputs
+unfoldable pub afterInputs : Lone → List Input → Lone
+afterInputs l [] = l
+afterInputs l (start c now ∷ inputs) = afterInputs (loneStart l c now .lone) inputs
+afterInputs l (step now ∷ inputs) = afterInputs (loneStep l now .lone) inputs
+afterInputs l (frame id payload now ∷ inputs) = afterInputs (hears l (received id payload) now .lone) inputs
 
 -- ---- a table: a run with its answers, or what is held then, and what it is to be
 
@@ -120,11 +120,11 @@ pub data Row : Type 0 where
   readings : List Entry → List Entry → Row
   removal : Checked → Checked → Row
 
-abbrev pub Holds : List Row → Type 0
-Holds [] = Unit
-Holds (run l inputs answers ∷ rows) = (runs l inputs ≡ answers) × Holds rows
-Holds (number a b ∷ rows) = (a ≡ b) × Holds rows
-Holds (gains a b ∷ rows) = (a ≡ b) × Holds rows
-Holds (fault a b ∷ rows) = (a ≡ b) × Holds rows
-Holds (readings a b ∷ rows) = (a ≡ b) × Holds rows
-Holds (removal a b ∷ rows) = (a ≡ b) × Holds rows
+abbrev pub RowsHold : List Row → Type 0
+RowsHold [] = Unit
+RowsHold (run l inputs answers ∷ rows) = (runs l inputs ≡ answers) × RowsHold rows
+RowsHold (number a b ∷ rows) = (a ≡ b) × RowsHold rows
+RowsHold (gains a b ∷ rows) = (a ≡ b) × RowsHold rows
+RowsHold (fault a b ∷ rows) = (a ≡ b) × RowsHold rows
+RowsHold (readings a b ∷ rows) = (a ≡ b) × RowsHold rows
+RowsHold (removal a b ∷ rows) = (a ≡ b) × RowsHold rows

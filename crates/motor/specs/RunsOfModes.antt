@@ -13,8 +13,8 @@ use Rattle.motor.specs.declared.engine.command.Command.the-variants as c
 use Rattle.motor.specs.declared.engine.command.Outcome.the-variants as outcome
 use Rattle.motor.specs.engine.Hosts.{hostCandidates}
 use Rattle.motor.specs.Lone.{hears}
-use Rattle.motor.specs.Receive.{acceptsFrame, isLate, countedAt, pingAfter, nextSequence, feedbackAfter, faultAfter, toldBy, isRead, readStatus, readId, readStored, frameSaid, stateAfter, readingsAfter}
-use Rattle.motor.specs.Runs.{bytes, Input, Output, start, step, fresh, status, reply, sent, waiting, finished, refused, passed, runs, Row, run, Holds}
+use Rattle.motor.specs.Receive.{acceptsFrame, isOutOfTime, countedAt, pingAfter, nextSequence, feedbackAfter, faultAfter, toldBy, isRead, readStatus, readId, readStored, frameSaid, stateAfter, readingsAfter}
+use Rattle.motor.specs.Runs.{bytes, Input, Output, start, step, fresh, status, reply, sent, waiting, finished, refused, passed, runs, Row, run, RowsHold}
 use Rattle.motor.specs.engine.Script.{isMode}
 
 -- the mode aimed at, and a time
@@ -201,6 +201,6 @@ modes =
     ∷ [])
     ∷ []
 
-pub modes-hold : Holds modes
-unfolding runs hears frameSaid stateAfter readingsAfter acceptsFrame isLate countedAt toldBy pingAfter nextSequence feedbackAfter faultAfter isRead readStatus readId readStored among listedIds int8Ids kindOf parameterInfo hostCandidates isMode
+pub modes-hold : RowsHold modes
+unfolding runs hears frameSaid stateAfter readingsAfter acceptsFrame isOutOfTime countedAt toldBy pingAfter nextSequence feedbackAfter faultAfter isRead readStatus readId readStored among listedIds int8Ids kindOf parameterInfo hostCandidates isMode
 modes-hold = (refl, (refl, (refl, (refl, (refl, (refl, (refl, tt)))))))

@@ -18,8 +18,8 @@ use Rattle.motor.specs.declared.motor.HeldFault.the-variants as held-fau
 use Rattle.motor.specs.Calls.{newState, noPing}
 use Rattle.motor.specs.Lone.{Lone, hears, loneRemoval}
 use Rattle.motor.specs.Readings as chain
-use Rattle.motor.specs.Receive.{acceptsFrame, isLate, countedAt, pingAfter, nextSequence, feedbackAfter, faultAfter, toldBy, isRead, readStatus, readId, readStored, frameSaid, stateAfter, readingsAfter, stateWith}
-use Rattle.motor.specs.Runs.{bytes, held, start, step, frame, fresh, status, reply, heard, sent, waiting, finished, finishedWith, refused, passed, runs, after, Row, run, number, readings, removal, Holds}
+use Rattle.motor.specs.Receive.{acceptsFrame, isOutOfTime, countedAt, pingAfter, nextSequence, feedbackAfter, faultAfter, toldBy, isRead, readStatus, readId, readStored, frameSaid, stateAfter, readingsAfter, stateWith}
+use Rattle.motor.specs.Runs.{bytes, held, start, step, frame, fresh, status, reply, heard, sent, waiting, finished, finishedWith, refused, passed, runs, afterInputs, Row, run, number, readings, removal, RowsHold}
 
 -- ---- start, step and removal
 
@@ -78,13 +78,13 @@ refusals =
     ∷ run (fresh 0xFD Rs00 0) (start (command.SetActiveReport true) 1000000000000000 ∷ [])
     (finishedWith outcome.Done 0x1800FD01 (bytes 1 2 3 4 5 6 1 0) ∷ [])
     -- removal: 7, 8
-    ∷ removal (loneRemoval (after (fresh 0xFD Rs00 0) (start command.Enable 100 ∷ [])) 99) (checked.Refused refusal.TimeOutOfRange)
-    ∷ removal (loneRemoval (after (fresh 0xFD Rs00 0) (start command.Enable 100 ∷ [])) 110) (checked.Refused refusal.OperationRunning)
+    ∷ removal (loneRemoval (afterInputs (fresh 0xFD Rs00 0) (start command.Enable 100 ∷ [])) 99) (checked.Refused refusal.TimeOutOfRange)
+    ∷ removal (loneRemoval (afterInputs (fresh 0xFD Rs00 0) (start command.Enable 100 ∷ [])) 110) (checked.Refused refusal.OperationRunning)
     ∷ removal (loneRemoval (fresh 0xFD Rs00 0) 100) checked.Passed
     ∷ []
 
-pub refusals-hold : Holds refusals
-unfolding runs after hears frameSaid stateAfter readingsAfter acceptsFrame isLate countedAt toldBy pingAfter nextSequence feedbackAfter faultAfter isRead readStatus readId readStored among listedIds int8Ids kindOf parameterInfo
+pub refusals-hold : RowsHold refusals
+unfolding runs afterInputs hears frameSaid stateAfter readingsAfter acceptsFrame isOutOfTime countedAt toldBy pingAfter nextSequence feedbackAfter faultAfter isRead readStatus readId readStored among listedIds int8Ids kindOf parameterInfo
 refusals-hold = (refl, (refl, (refl, (refl, (refl, (refl, (refl, tt)))))))
 
 -- ---- frames
@@ -114,21 +114,21 @@ frames =
     (frame 0x110101FD (bytes 5 0x70 0 0 2 0 0 0) 110 ∷ reply (bytes 5 0x70 0 0 2 0 0 0) 120 ∷ reply (bytes 7 0 0 0 2 0 0 0) 130 ∷ [])
     (heard (checked.Refused (refusal.ReadFailed 0x7005 1)) ∷ heard (checked.Refused refusal.ReadingsFull) ∷ passed ∷ [])
     -- 14 leaves the value held; 14 and 15 raise the count and move the clock
-    ∷ readings (after (fresh 0xFD Rs00 0) (reply (bytes 5 0x70 0 0 2 0 0 0) 110 ∷ frame 0x110101FD (bytes 5 0x70 0 0 3 0 0 0) 120 ∷ []) .readings)
+    ∷ readings (afterInputs (fresh 0xFD Rs00 0) (reply (bytes 5 0x70 0 0 2 0 0 0) 110 ∷ frame 0x110101FD (bytes 5 0x70 0 0 3 0 0 0) 120 ∷ []) .readings)
     (held 0x7005 (value.I8 (pos 2)) ∷ [])
-    ∷ number (after filled (frame 0x110101FD (bytes 5 0x70 0 0 2 0 0 0) 110 ∷ reply (bytes 5 0x70 0 0 2 0 0 0) 120 ∷ []) .state .responses) 2
-    ∷ number (after filled (reply (bytes 5 0x70 0 0 2 0 0 0) 120 ∷ []) .state .clock) 120
+    ∷ number (afterInputs filled (frame 0x110101FD (bytes 5 0x70 0 0 2 0 0 0) 110 ∷ reply (bytes 5 0x70 0 0 2 0 0 0) 120 ∷ []) .state .responses) 2
+    ∷ number (afterInputs filled (reply (bytes 5 0x70 0 0 2 0 0 0) 120 ∷ []) .state .clock) 120
     -- a type 2 payload beginning 00 C4 56 is feedback like any other
-    ∷ number (after (fresh 0xFD Rs00 0) (frame 0x020001FD (bytes 0 0xC4 0x56 1 2 3 4 0) 110 ∷ []) .state .feedback .sequence) 1
+    ∷ number (afterInputs (fresh 0xFD Rs00 0) (frame 0x020001FD (bytes 0 0xC4 0x56 1 2 3 4 0) 110 ∷ []) .state .feedback .sequence) 1
     -- the count wraps, so that it isn't greater than at the send; the sequence stays
-    ∷ number (after counted-out (frame 0x190001FD zeros 110 ∷ []) .state .responses) 0
-    ∷ number (after counted-out (status 110 ∷ []) .state .feedback .sequence) 0xFFFFFFFFFFFFFFFF
+    ∷ number (afterInputs counted-out (frame 0x190001FD zeros 110 ∷ []) .state .responses) 0
+    ∷ number (afterInputs counted-out (status 110 ∷ []) .state .feedback .sequence) 0xFFFFFFFFFFFFFFFF
     ∷ run counted-out (start command.SaveParameters 100 ∷ frame 0x190001FD zeros 120 ∷ step 120 ∷ [])
     (sent 600 0x1600FD01 (bytes 1 2 3 4 5 6 7 8) ∷ passed ∷ waiting 600 ∷ [])
     ∷ run counted-out (start command.Enable 100 ∷ status 120 ∷ step 120 ∷ [])
     (sent 340 0x0300FD01 zeros ∷ passed ∷ waiting 340 ∷ [])
     ∷ []
 
-pub frames-hold : Holds frames
-unfolding runs after chain.run hears frameSaid stateAfter readingsAfter acceptsFrame isLate countedAt toldBy pingAfter nextSequence feedbackAfter faultAfter isRead readStatus readId readStored among listedIds int8Ids kindOf parameterInfo
+pub frames-hold : RowsHold frames
+unfolding runs afterInputs chain.run hears frameSaid stateAfter readingsAfter acceptsFrame isOutOfTime countedAt toldBy pingAfter nextSequence feedbackAfter faultAfter isRead readStatus readId readStored among listedIds int8Ids kindOf parameterInfo
 frames-hold = (refl, (refl, (refl, (refl, (refl, (refl, (refl, (refl, (refl, (refl, tt))))))))))

@@ -15,8 +15,8 @@ use Rattle.motor.specs.declared.engine.command.Command.the-variants as c
 use Rattle.motor.specs.declared.engine.command.Outcome.the-variants as outcome
 use Rattle.motor.specs.declared.engine.operation.Gains.{Gains}
 use Rattle.motor.specs.Lone.{hears}
-use Rattle.motor.specs.Receive.{acceptsFrame, isLate, countedAt, pingAfter, nextSequence, feedbackAfter, faultAfter, toldBy, isRead, readStatus, readId, readStored, frameSaid, stateAfter, readingsAfter}
-use Rattle.motor.specs.Runs.{word, bytes, Input, start, step, fresh, status, reply, sent, waiting, finished, finishedWith, refused, passed, runs, after, Row, run, gains, Holds}
+use Rattle.motor.specs.Receive.{acceptsFrame, isOutOfTime, countedAt, pingAfter, nextSequence, feedbackAfter, faultAfter, toldBy, isRead, readStatus, readId, readStored, frameSaid, stateAfter, readingsAfter}
+use Rattle.motor.specs.Runs.{word, bytes, Input, start, step, fresh, status, reply, sent, waiting, finished, finishedWith, refused, passed, runs, afterInputs, Row, run, gains, RowsHold}
 use Rattle.motor.specs.engine.Script.{stopGain}
 
 -- ---- modes 2, 1 and 5 write; 3 is 17
@@ -59,8 +59,8 @@ written =
     (sent 300 0x1100FD01 (bytes 5 0x70 0 0 0 0 0 0) ∷ passed ∷ refused refusal.UnsupportedRunMode ∷ refused refusal.NothingRunning ∷ [])
     ∷ []
 
-pub written-hold : Holds written
-unfolding runs hears frameSaid stateAfter readingsAfter acceptsFrame isLate countedAt toldBy pingAfter nextSequence feedbackAfter faultAfter isRead readStatus readId readStored among listedIds int8Ids uint8Ids uint16Ids uint32Ids kindOf parameterInfo controlModeFromRaw
+pub written-hold : RowsHold written
+unfolding runs hears frameSaid stateAfter readingsAfter acceptsFrame isOutOfTime countedAt toldBy pingAfter nextSequence feedbackAfter faultAfter isRead readStatus readId readStored among listedIds int8Ids uint8Ids uint16Ids uint32Ids kindOf parameterInfo controlModeFromRaw
 written-hold = (refl, (refl, (refl, (refl, (refl, tt)))))
 
 -- ---- mode 0 sends the angle that it reads (4π) as a motion command
@@ -92,7 +92,7 @@ moved =
     ∷ passed
     ∷ finishedWith (outcome.Mode mode.Mit) 0x017FFF01 (bytes 0xFF 0xFE 0x7F 0xFF 0x19 0x99 0x19 0x99)
     ∷ [])
-    ∷ gains (after (fresh 0xFD Rs00 0) stopping .state .gains) (both 0x42480000 0x3F000000)
+    ∷ gains (afterInputs (fresh 0xFD Rs00 0) stopping .state .gains) (both 0x42480000 0x3F000000)
     -- 0.02 times the maximum in f32, 41200000 (10) and 3DCCCCCC, isn't below: kept
     ∷ run (fresh 0xFD Rs00 0) (start (motion 0x41200000 0x3DCCCCCC) 100 ∷ stopping)
     (finishedWith outcome.Done 0x017FFF01 (bytes 0x7F 0xFF 0x7F 0xFF 0x05 0x1E 0x05 0x1E)
@@ -102,11 +102,11 @@ moved =
     ∷ passed
     ∷ finishedWith (outcome.Mode mode.Mit) 0x017FFF01 (bytes 0xFF 0xFE 0x7F 0xFF 0x05 0x1E 0x05 0x1E)
     ∷ [])
-    ∷ gains (after (fresh 0xFD Rs00 0) (start (motion 0x41200000 0x3DCCCCCC) 100 ∷ stopping) .state .gains) (both 0x41200000 0x3DCCCCCC)
+    ∷ gains (afterInputs (fresh 0xFD Rs00 0) (start (motion 0x41200000 0x3DCCCCCC) 100 ∷ stopping) .state .gains) (both 0x41200000 0x3DCCCCCC)
     -- the words below those are replaced
-    ∷ gains (after (fresh 0xFD Rs00 0) (start (motion 0x411FFFFF 0x3DCCCCCB) 100 ∷ stopping) .state .gains) (both 0x42480000 0x3F000000)
+    ∷ gains (afterInputs (fresh 0xFD Rs00 0) (start (motion 0x411FFFFF 0x3DCCCCCB) 100 ∷ stopping) .state .gains) (both 0x42480000 0x3F000000)
     -- held as given before any clamp: 600 and 6
-    ∷ gains (after (fresh 0xFD Rs00 0) (start (motion 0x44160000 0x40C00000) 100 ∷ stopping) .state .gains) (both 0x44160000 0x40C00000)
+    ∷ gains (afterInputs (fresh 0xFD Rs00 0) (start (motion 0x44160000 0x40C00000) 100 ∷ stopping) .state .gains) (both 0x44160000 0x40C00000)
     -- a NaN isn't below, and is kept with its bits; sent, it is 0. A negative gain is below
     ∷ run (fresh 0xFD Rs00 0) (start (motion 0x7FC00001 0xBF800000) 100 ∷ stopping)
     (finishedWith outcome.Done 0x017FFF01 (bytes 0x7F 0xFF 0x7F 0xFF 0 0 0 0)
@@ -116,9 +116,9 @@ moved =
     ∷ passed
     ∷ finishedWith (outcome.Mode mode.Mit) 0x017FFF01 (bytes 0xFF 0xFE 0x7F 0xFF 0 0 0x19 0x99)
     ∷ [])
-    ∷ gains (after (fresh 0xFD Rs00 0) (start (motion 0x7FC00001 0xBF800000) 100 ∷ stopping) .state .gains) (both 0x7FC00001 0x3F000000)
+    ∷ gains (afterInputs (fresh 0xFD Rs00 0) (start (motion 0x7FC00001 0xBF800000) 100 ∷ stopping) .state .gains) (both 0x7FC00001 0x3F000000)
     ∷ []
 
-pub moved-hold : Holds moved
-unfolding runs after hears frameSaid stateAfter readingsAfter acceptsFrame isLate countedAt toldBy pingAfter nextSequence feedbackAfter faultAfter isRead readStatus readId readStored among listedIds int8Ids uint8Ids uint16Ids uint32Ids kindOf parameterInfo controlModeFromRaw stopGain motionRaw gainRaw clamp toUnsigned mul add sub div neg lt ofInt ofBits toBits
+pub moved-hold : RowsHold moved
+unfolding runs afterInputs hears frameSaid stateAfter readingsAfter acceptsFrame isOutOfTime countedAt toldBy pingAfter nextSequence feedbackAfter faultAfter isRead readStatus readId readStored among listedIds int8Ids uint8Ids uint16Ids uint32Ids kindOf parameterInfo controlModeFromRaw stopGain motionRaw gainRaw clamp toUnsigned mul add sub div neg lt ofInt ofBits toBits
 moved-hold = (refl, (refl, (refl, (refl, (refl, (refl, (refl, (refl, tt))))))))

@@ -7,8 +7,10 @@ use Rattle.codec.specs.declared.error.Checked.the-variants as checked
 use Rattle.codec.specs.declared.error.Refusal.the-variants as refusal
 use Rattle.codec.specs.declared.model.Model.the-variants.{Rs00}
 use Rattle.codec.specs.declared.protocol.ParameterValue.the-variants as value
+use Rattle.codec.specs.declared.registers.ControlMode.the-variants.{PositionCsp}
 use Rattle.codec.specs.Faults.{decodeFaultReport}
 use Rattle.codec.specs.Kinds.{among, listedIds, int8Ids, uint8Ids, kindOf, parameterInfo}
+use Rattle.codec.specs.Modes.{controlModeFromRaw}
 use Rattle.codec.specs.Replies.{zeros}
 use Rattle.motor.specs.declared.engine.command.Command.the-variants as command
 use Rattle.motor.specs.declared.engine.command.Outcome.the-variants as outcome
@@ -16,9 +18,9 @@ use Rattle.motor.specs.declared.engine.command.Said.the-variants as said
 use Rattle.motor.specs.declared.motor.HeldFault.the-variants as held-fault
 use Rattle.motor.specs.engine.Hosts.{hostCandidates}
 use Rattle.motor.specs.Lone.{hears}
-use Rattle.motor.specs.Receive.{acceptsFrame, isLate, countedAt, pingAfter, nextSequence, feedbackAfter, faultAfter, toldBy, isRead, readStatus, readId, readStored, frameSaid, stateAfter, readingsAfter}
+use Rattle.motor.specs.Receive.{acceptsFrame, isOutOfTime, countedAt, pingAfter, nextSequence, feedbackAfter, faultAfter, toldBy, isRead, readStatus, readId, readStored, frameSaid, stateAfter, readingsAfter}
 use Rattle.motor.specs.engine.Requests.{noFrame}
-use Rattle.motor.specs.Runs.{bytes, held, start, step, frame, fresh, status, reply, answered, heard, sent, waiting, finished, finishedWith, refused, passed, runs, after, Row, run, readings, fault, Holds}
+use Rattle.motor.specs.Runs.{bytes, held, start, step, frame, fresh, status, reply, answered, heard, sent, waiting, finished, finishedWith, refused, passed, runs, afterInputs, Row, run, readings, fault, RowsHold}
 
 -- ---- acknowledgements: enable (240) and save_parameters (500)
 
@@ -65,17 +67,17 @@ acknowledgements =
     ∷ run (fresh 0xFD Rs00 0) (start command.ClearError 100 ∷ status 120 ∷ step 120 ∷ [])
     (sent 340 0x0400FD01 (bytes 1 0 0 0 0 0 0 0) ∷ passed ∷ finished outcome.Done ∷ [])
     -- it drops the fault report once acknowledged
-    ∷ fault (after (fresh 0xFD Rs00 0) (frame 0x150001FD zeros 100 ∷ start command.ClearError 120 ∷ status 140 ∷ []) .state .«fault_report»)
+    ∷ fault (afterInputs (fresh 0xFD Rs00 0) (frame 0x150001FD zeros 100 ∷ start command.ClearError 120 ∷ status 140 ∷ []) .state .«fault_report»)
     (held-fault.Report (decodeFaultReport zeros))
-    ∷ fault (after (fresh 0xFD Rs00 0) (frame 0x150001FD zeros 100 ∷ start command.ClearError 120 ∷ status 140 ∷ step 140 ∷ []) .state .«fault_report»)
+    ∷ fault (afterInputs (fresh 0xFD Rs00 0) (frame 0x150001FD zeros 100 ∷ start command.ClearError 120 ∷ status 140 ∷ step 140 ∷ []) .state .«fault_report»)
     held-fault.Nothing
     -- set_active_report, with finished from the call
     ∷ run (fresh 0xFD Rs00 0) (start (command.SetActiveReport true) 100 ∷ start (command.SetActiveReport false) 100 ∷ [])
     (finishedWith outcome.Done 0x1800FD01 (bytes 1 2 3 4 5 6 1 0) ∷ finishedWith outcome.Done 0x1800FD01 (bytes 1 2 3 4 5 6 0 0) ∷ [])
     ∷ []
 
-pub acknowledgements-hold : Holds acknowledgements
-unfolding runs after hears frameSaid stateAfter readingsAfter acceptsFrame isLate countedAt toldBy pingAfter nextSequence feedbackAfter faultAfter isRead readStatus readId readStored among listedIds int8Ids uint8Ids kindOf parameterInfo hostCandidates
+pub acknowledgements-hold : RowsHold acknowledgements
+unfolding runs afterInputs hears frameSaid stateAfter readingsAfter acceptsFrame isOutOfTime countedAt toldBy pingAfter nextSequence feedbackAfter faultAfter isRead readStatus readId readStored among listedIds int8Ids uint8Ids kindOf parameterInfo hostCandidates
 acknowledgements-hold = (refl, (refl, (refl, (refl, (refl, (refl, (refl, (refl, (refl, (refl, (refl, (refl, (refl, (refl, (refl, tt)))))))))))))))
 
 -- ---- reads and pings
@@ -90,8 +92,8 @@ values =
     -- a send drops the old value: it isn't the reading held from before
     ∷ run (fresh 0xFD Rs00 0) (reply (bytes 5 0x70 0 0 2 0 0 0) 100 ∷ start (command.GetParameter 0x7005 0) 120 ∷ step 130 ∷ reply (bytes 5 0x70 0 0 5 0 0 0) 140 ∷ step 140 ∷ [])
     (passed ∷ sent 270 0x1100FD01 (bytes 5 0x70 0 0 0 0 0 0) ∷ waiting 270 ∷ passed ∷ finished (outcome.Value (value.I8 (pos 5))) ∷ [])
-    ∷ readings (after (fresh 0xFD Rs00 0) (reply (bytes 5 0x70 0 0 2 0 0 0) 100 ∷ []) .readings) (held 0x7005 (value.I8 (pos 2)) ∷ [])
-    ∷ readings (after (fresh 0xFD Rs00 0) (reply (bytes 5 0x70 0 0 2 0 0 0) 100 ∷ start (command.GetParameter 0x7005 0) 120 ∷ []) .readings) []
+    ∷ readings (afterInputs (fresh 0xFD Rs00 0) (reply (bytes 5 0x70 0 0 2 0 0 0) 100 ∷ []) .readings) (held 0x7005 (value.I8 (pos 2)) ∷ [])
+    ∷ readings (afterInputs (fresh 0xFD Rs00 0) (reply (bytes 5 0x70 0 0 2 0 0 0) 100 ∷ start (command.GetParameter 0x7005 0) 120 ∷ []) .readings) []
     -- silence
     ∷ run (fresh 0xFD Rs00 0) (start (command.GetParameter 0x7019 0) 100 ∷ step 250 ∷ step 400 ∷ step 550 ∷ [])
     (sent 250 0x1100FD01 (bytes 0x19 0x70 0 0 0 0 0 0)
@@ -125,9 +127,14 @@ values =
     -- request_parameter, with finished from the call; it drops the reading
     ∷ run (fresh 0xFD Rs00 0) (start (command.RequestParameter 0x7005) 100 ∷ [])
     (finishedWith outcome.Done 0x1100FD01 (bytes 5 0x70 0 0 0 0 0 0) ∷ [])
-    ∷ readings (after (fresh 0xFD Rs00 0) (reply (bytes 5 0x70 0 0 2 0 0 0) 100 ∷ start (command.RequestParameter 0x7005) 120 ∷ []) .readings) []
+    ∷ readings (afterInputs (fresh 0xFD Rs00 0) (reply (bytes 5 0x70 0 0 2 0 0 0) 100 ∷ start (command.RequestParameter 0x7005) 120 ∷ []) .readings) []
+    -- get_control_mode: 5 is csp; 3 is no mode, 17
+    ∷ run (fresh 0xFD Rs00 0) (start (command.GetControlMode 200) 100 ∷ reply (bytes 5 0x70 0 0 5 0 0 0) 120 ∷ step 120 ∷ [])
+    (sent 300 0x1100FD01 (bytes 5 0x70 0 0 0 0 0 0) ∷ passed ∷ finished (outcome.Mode PositionCsp) ∷ [])
+    ∷ run (fresh 0xFD Rs00 0) (start (command.GetControlMode 200) 100 ∷ reply (bytes 5 0x70 0 0 3 0 0 0) 120 ∷ step 120 ∷ [])
+    (sent 300 0x1100FD01 (bytes 5 0x70 0 0 0 0 0 0) ∷ passed ∷ refused refusal.UnsupportedRunMode ∷ [])
     ∷ []
 
-pub values-hold : Holds values
-unfolding runs after hears frameSaid stateAfter readingsAfter acceptsFrame isLate countedAt toldBy pingAfter nextSequence feedbackAfter faultAfter isRead readStatus readId readStored among listedIds int8Ids uint8Ids kindOf parameterInfo hostCandidates
-values-hold = (refl, (refl, (refl, (refl, (refl, (refl, (refl, (refl, (refl, (refl, (refl, (refl, (refl, (refl, (refl, (refl, tt))))))))))))))))
+pub values-hold : RowsHold values
+unfolding runs afterInputs hears frameSaid stateAfter readingsAfter acceptsFrame isOutOfTime countedAt toldBy pingAfter nextSequence feedbackAfter faultAfter isRead readStatus readId readStored among listedIds int8Ids uint8Ids kindOf parameterInfo controlModeFromRaw hostCandidates
+values-hold = (refl, (refl, (refl, (refl, (refl, (refl, (refl, (refl, (refl, (refl, (refl, (refl, (refl, (refl, (refl, (refl, (refl, (refl, tt))))))))))))))))))

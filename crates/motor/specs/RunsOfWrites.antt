@@ -11,8 +11,8 @@ use Rattle.motor.specs.declared.engine.command.Command.the-variants as c
 use Rattle.motor.specs.declared.engine.command.Outcome.the-variants as outcome
 use Rattle.motor.specs.engine.Hosts.{hostCandidates}
 use Rattle.motor.specs.Lone.{hears}
-use Rattle.motor.specs.Receive.{acceptsFrame, isLate, countedAt, pingAfter, nextSequence, feedbackAfter, faultAfter, toldBy, isRead, readStatus, readId, readStored, frameSaid, stateAfter, readingsAfter}
-use Rattle.motor.specs.Runs.{word, bytes, start, step, fresh, status, sent, finished, finishedWith, refused, passed, runs, Row, run, Holds}
+use Rattle.motor.specs.Receive.{acceptsFrame, isOutOfTime, countedAt, pingAfter, nextSequence, feedbackAfter, faultAfter, toldBy, isRead, readStatus, readId, readStored, frameSaid, stateAfter, readingsAfter}
+use Rattle.motor.specs.Runs.{word, bytes, start, step, fresh, status, sent, finished, finishedWith, refused, passed, runs, Row, run, RowsHold}
 use Rattle.motor.specs.engine.Script.{absOf}
 
 abbrev pub writes : List Row
@@ -35,8 +35,8 @@ writes =
     (finishedWith outcome.Done 0x1200FD01 (bytes 5 0x70 0 0 5 0 0 0) ∷ [])
     ∷ []
 
-pub writes-hold : Holds writes
-unfolding runs hears frameSaid stateAfter readingsAfter acceptsFrame isLate countedAt toldBy pingAfter nextSequence feedbackAfter faultAfter isRead readStatus readId readStored among listedIds int8Ids uint8Ids uint16Ids uint32Ids kindOf parameterInfo hostCandidates
+pub writes-hold : RowsHold writes
+unfolding runs hears frameSaid stateAfter readingsAfter acceptsFrame isOutOfTime countedAt toldBy pingAfter nextSequence feedbackAfter faultAfter isRead readStatus readId readStored among listedIds int8Ids uint8Ids uint16Ids uint32Ids kindOf parameterInfo hostCandidates
 writes-hold = (refl, (refl, (refl, (refl, tt))))
 
 abbrev pub positions : List Row
@@ -126,6 +126,6 @@ positions =
     ∷ [])
     ∷ []
 
-pub positions-hold : Holds positions
-unfolding runs hears frameSaid stateAfter readingsAfter acceptsFrame isLate countedAt toldBy pingAfter nextSequence feedbackAfter faultAfter isRead readStatus readId readStored among listedIds int8Ids uint8Ids uint16Ids uint32Ids kindOf parameterInfo hostCandidates absOf
+pub positions-hold : RowsHold positions
+unfolding runs hears frameSaid stateAfter readingsAfter acceptsFrame isOutOfTime countedAt toldBy pingAfter nextSequence feedbackAfter faultAfter isRead readStatus readId readStored among listedIds int8Ids uint8Ids uint16Ids uint32Ids kindOf parameterInfo hostCandidates absOf
 positions-hold = (refl, (refl, (refl, (refl, (refl, (refl, (refl, (refl, tt))))))))

@@ -54,10 +54,10 @@ fn new_id_checked(new_id: u8) -> Checked
 fn value_checked(param_id: u16, value: ParameterValue) -> Checked
     ensures { λ r. ⌜ r ≡ encodes (encodeParameterValue «param_id» value) ⌝ }
 {
-    match encode_parameter_value(param_id, value) {
-        EncodedValue::Raw(_) => Checked::Passed,
-        EncodedValue::Refused(refusal) => Checked::Refused(refusal),
+    if let EncodedValue::Refused(refusal) = encode_parameter_value(param_id, value) {
+        return Checked::Refused(refusal);
     }
+    Checked::Passed
 }
 
 // 2, 19, 12, 10, 11.

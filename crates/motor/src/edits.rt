@@ -1,18 +1,22 @@
-// What a read reply stores: the state, and an edit of the readings, whose other records stay where they are.
+// Receiving, with what is stored of the readings as an edit: their other records stay where they are.
 use crate::engine::reading::Stored;
-use crate::limits::READINGS;
 use crate::motor::Motor;
 use crate::motor::State;
 use crate::readings::PutAnswer;
 use crate::readings::Reading;
 use crate::readings::Readings;
-use crate::readings::seek;
+use crate::readings::Site;
+use crate::readings::holder_in;
+use crate::readings::is_record;
+use crate::readings::site_of;
 use crate::readings::with_next;
 use crate::receive::counted_at;
 use crate::receive::frame_admitted;
+use crate::receive::is_read;
 use crate::receive::read_id;
 use crate::receive::read_stored;
 use crate::receive::status_in;
+use crate::receive::told_by;
 use codec::bus::CanFrame;
 use codec::error::Checked;
 use codec::error::Refusal;
@@ -20,7 +24,7 @@ use codec::protocol::ext_id_parts;
 ghost use mathlib.Core.Path.{_≡_};
 ghost use Prim.Native.Nat.{_≤_, _<_};
 ghost use Rattle.motor.specs.Limits.{mostReadings, mostRecords};
-ghost use Rattle.motor.specs.Edits.{editedBy, noEdit, addEdit, putEdit, readKept, hearRead};
+ghost use Rattle.motor.specs.Edits.{editedBy, headEdit, addEdit, putEdit, readKept, hearRead};
 
 // What is to be stored of the readings: record `first` is `one`; then record `second` goes on to `link`; `free` is the first free record.
 pub struct Edit {
@@ -37,7 +41,7 @@ pub struct PutEdit {
     pub edit: Edit,
 }
 
-// What a read reply answers, the state after it, and what it stores of the readings.
+// What a frame answers, the state after it, and what it stores of the readings.
 pub struct ReadHeard {
     pub state: State,
     pub edit: Edit,
@@ -58,76 +62,63 @@ pub(crate) fn edited_by(rs: Readings, edit: Edit) -> Readings
     with_next(out, second, edit.link)
 }
 
-// Nothing changes: record 0 stored as it is.
-fn no_edit(rs: Readings) -> Edit
-    ensures { λ r. ⌜ r ≡ noEdit rs ⌝ }
+// Nothing changes: record 0, the head, stored as it is.
+fn head_edit(head: Reading, free: u16) -> Edit
+    ensures { λ r. ⌜ r ≡ headEdit head free ⌝ }
 {
-    let one = rs.records[0];
     Edit {
         first: 0,
-        one,
+        one: head,
         second: 0,
-        link: one.next,
-        free: rs.free,
+        link: head.next,
+        free,
     }
 }
 
-// id is not held, and its place is after record p: it takes the first free record.
-fn add_edit(rs: Readings, id: u16, held: Stored, p: u16) -> PutEdit
-    requires { ⌜ p ≤ mostReadings ⌝ }
-    ensures { λ r. ⌜ (r ≡ addEdit rs id held p) × (r .edit .first < mostRecords) × (r .edit .second < mostRecords) ⌝ }
+// id is not held, and this is its place: it takes the first free record.
+fn add_edit(site: Site, id: u16, held: Stored) -> PutEdit
+    requires { ⌜ site .before ≤ mostReadings ⌝ }
+    ensures { λ r. ⌜ (r ≡ addEdit site id held) × (r .edit .first < mostRecords) × (r .edit .second < mostRecords) ⌝ }
 {
-    let f = rs.free;
-    if f == 0 {
-        let edit = no_edit(rs);
+    let f = site.free;
+    if is_record(f) {
+        let first = f as usize;
+        let second = site.before as usize;
+        let one = Reading {
+            id,
+            held,
+            next: site.next,
+        };
+        let edit = Edit {
+            first,
+            one,
+            second,
+            link: f,
+            free: site.after_free,
+        };
         return PutEdit {
-            said: PutAnswer::Full,
+            said: PutAnswer::Kept,
             edit,
         };
     }
-    if READINGS < f {
-        let edit = no_edit(rs);
-        return PutEdit {
-            said: PutAnswer::Full,
-            edit,
-        };
-    }
-    let first = f as usize;
-    let second = p as usize;
-    let next = rs.records[second].next;
-    let free = rs.records[first].next;
-    let one = Reading { id, held, next };
-    let edit = Edit {
-        first,
-        one,
-        second,
-        link: f,
-        free,
-    };
+    let edit = head_edit(site.head, f);
     PutEdit {
-        said: PutAnswer::Kept,
+        said: PutAnswer::Full,
         edit,
     }
 }
 
-// What a put of held for id stores: the record that holds id, else the first free one.
-pub(crate) fn put_edit(rs: Readings, id: u16, held: Stored) -> PutEdit
-    ensures { λ r. ⌜ (r ≡ putEdit rs id held) × (r .edit .first < mostRecords) × (r .edit .second < mostRecords) ⌝ }
+// What a put of held for id, whose place this is, stores: the record that holds id, else the first free one.
+pub(crate) fn put_edit(site: Site, id: u16, held: Stored) -> PutEdit
+    requires { ⌜ site .before ≤ mostReadings ⌝ }
+    ensures { λ r. ⌜ (r ≡ putEdit site id held) × (r .edit .first < mostRecords) × (r .edit .second < mostRecords) ⌝ }
 {
-    let p = seek(rs, id);
-    let at = p as usize;
-    let n = rs.records[at].next;
+    let n = holder_in(site, id);
     if n == 0 {
-        return add_edit(rs, id, held, p);
-    }
-    if READINGS < n {
-        return add_edit(rs, id, held, p);
+        return add_edit(site, id, held);
     }
     let k = n as usize;
-    let link = rs.records[k].next;
-    if rs.records[k].id != id {
-        return add_edit(rs, id, held, p);
-    }
+    let link = site.there.next;
     let one = Reading {
         id,
         held,
@@ -138,7 +129,7 @@ pub(crate) fn put_edit(rs: Readings, id: u16, held: Stored) -> PutEdit
         one,
         second: k,
         link,
-        free: rs.free,
+        free: site.free,
     };
     PutEdit {
         said: PutAnswer::Kept,
@@ -149,11 +140,12 @@ pub(crate) fn put_edit(rs: Readings, id: u16, held: Stored) -> PutEdit
 fn read_kept(state: State, rs: Readings, said: Checked) -> ReadHeard
     ensures { λ r. ⌜ r ≡ readKept state rs said ⌝ }
 {
-    let edit = no_edit(rs);
+    let edit = head_edit(rs.records[0], rs.free);
     ReadHeard { state, edit, said }
 }
 
-// A read reply, at a time: 13 and 7 change nothing; else it is counted, 14 and 15 store nothing, and a value is put.
+// A frame at a time: 13 and 7 change nothing; else it is counted, and held by its type. Of a read reply 14 and 15 store nothing,
+// and a value is put.
 pub fn hear_read(m: Motor, frame: CanFrame, now: u64) -> ReadHeard
     ensures { λ r. ⌜ (r ≡ hearRead m frame now) × (r .edit .first < mostRecords) × (r .edit .second < mostRecords) ⌝ }
 {
@@ -165,6 +157,9 @@ pub fn hear_read(m: Motor, frame: CanFrame, now: u64) -> ReadHeard
         return read_kept(s, rs, Checked::Refused(refusal));
     }
     let state = counted_at(s, now);
+    if !is_read(parts) {
+        return read_kept(told_by(state, parts, frame), rs, Checked::Passed);
+    }
     let id = read_id(frame);
     let status = status_in(parts);
     if status != 0 {
@@ -174,7 +169,7 @@ pub fn hear_read(m: Motor, frame: CanFrame, now: u64) -> ReadHeard
             Checked::Refused(Refusal::ReadFailed { id, status }),
         );
     }
-    let result = put_edit(rs, id, read_stored(frame));
+    let result = put_edit(site_of(rs, id), id, read_stored(frame));
     let edit = result.edit;
     let answer = result.said;
     match answer {

@@ -27,7 +27,7 @@ use crate::readings::Readings;
 use crate::readings::empty;
 use crate::readings::find;
 use crate::readings::listed;
-use crate::receive::is_late;
+use crate::receive::is_out_of_time;
 use codec::bus::CanFrame;
 use codec::error::Checked;
 use codec::error::Refusal;
@@ -173,7 +173,7 @@ fn is_idle(phase: Phase) -> bool
 fn start_admitted(clock: u64, phase: Phase, command: Command, now: u64) -> Checked
     ensures { λ r. ⌜ r ≡ startAdmitted clock phase command now ⌝ }
 {
-    if is_late(clock, now) {
+    if is_out_of_time(clock, now) {
         return Checked::Refused(Refusal::TimeOutOfRange);
     }
     if !is_idle(phase) {
@@ -189,10 +189,10 @@ fn start_admitted(clock: u64, phase: Phase, command: Command, now: u64) -> Check
 fn start_said(clock: u64, phase: Phase, command: Command, now: u64) -> Checked
     ensures { λ r. ⌜ r ≡ startSaid clock phase command now ⌝ }
 {
-    match start_admitted(clock, phase, command, now) {
-        Checked::Passed => argued(command),
-        Checked::Refused(refusal) => Checked::Refused(refusal),
+    if let Checked::Refused(refusal) = start_admitted(clock, phase, command, now) {
+        return Checked::Refused(refusal);
     }
+    argued(command)
 }
 
 // A call starts an operation.
@@ -203,15 +203,11 @@ pub fn start(m: Motor, command: Command, now: u64) -> Answered
     let state = m.state;
     let operation = state.operation;
     let phase = operation.phase;
-    match start_said(state.clock, phase, command, now) {
-        Checked::Passed => return moved_by(
-            m,
-            now,
-            command,
-            begin_at(sight_of(state), now, command),
-        ),
-        Checked::Refused(refusal) => return refused(m, refusal),
+    if let Checked::Refused(refusal) = start_said(state.clock, phase, command, now) {
+        return refused(m, refusal);
     }
+    let made = begin_at(sight_of(state), now, command);
+    moved_by(m, now, command, made)
 }
 
 // ---- step
@@ -220,7 +216,7 @@ pub fn start(m: Motor, command: Command, now: u64) -> Answered
 fn step_said(clock: u64, phase: Phase, now: u64) -> Checked
     ensures { λ r. ⌜ r ≡ stepSaid clock phase now ⌝ }
 {
-    if is_late(clock, now) {
+    if is_out_of_time(clock, now) {
         return Checked::Refused(Refusal::TimeOutOfRange);
     }
     if is_idle(phase) {
@@ -260,18 +256,12 @@ pub fn step(m: Motor, now: u64) -> Answered
     let operation = state.operation;
     let phase = operation.phase;
     let command = state.command;
-    match step_said(state.clock, phase, now) {
-        Checked::Passed => {
-            let found = wanted_at(readings, phase);
-            return moved_by(
-                m,
-                now,
-                command,
-                advance_at(sight_of(state), now, operation, found),
-            );
-        }
-        Checked::Refused(refusal) => return refused(m, refusal),
+    if let Checked::Refused(refusal) = step_said(state.clock, phase, now) {
+        return refused(m, refusal);
     }
+    let found = wanted_at(readings, phase);
+    let made = advance_at(sight_of(state), now, operation, found);
+    moved_by(m, now, command, made)
 }
 
 // ---- look and removal
@@ -294,7 +284,7 @@ pub fn removal(m: Motor, now: u64) -> Checked
     let state = m.state;
     let operation = state.operation;
     let phase = operation.phase;
-    if is_late(state.clock, now) {
+    if is_out_of_time(state.clock, now) {
         return Checked::Refused(Refusal::TimeOutOfRange);
     }
     if !is_idle(phase) {

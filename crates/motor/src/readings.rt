@@ -11,7 +11,7 @@ ghost use mathlib.Core.Path.{_≡_};
 ghost use mathlib.Core.List.{List};
 ghost use Prim.Native.Nat.{_≤_, _<_};
 ghost use Rattle.motor.specs.Limits.{mostReadings, mostRecords};
-ghost use Rattle.motor.specs.Readings.{Lists, Rep, Holds, Puts, atFirst, lookup, dropIn, listing, blankStored, freeRecord, withNext, seekFrom, holderAt, emptyReadings, findOf, putOf, dropId, listedOf};
+ghost use Rattle.motor.specs.Readings.{Lists, Rep, Holds, Puts, atFirst, lookup, dropIn, listing, blankStored, freeRecord, withNext, recordIndex, isRecord, siteOf, holderIn, emptyReadings, findOf, putOf, dropId, listedOf};
 
 // A record. The next of the last one is 0.
 pub struct Reading {
@@ -81,49 +81,88 @@ pub fn empty() -> Readings
     Readings { records, free: 1 }
 }
 
-// The last record, 0 for the head, before the place of id.
-pub(crate) fn seek(rs: Readings, id: u16) -> u16
-    ensures { λ r. ⌜ (r ≤ mostReadings) × (r ≡ seekFrom mostReadings (rs .records) id 0) ⌝ }
+// The place of an id in the chain: the record before it, 0 for the head, where that one goes on, and the record there; the first
+// free record, and where it goes on; the head.
+pub(crate) struct Site {
+    pub before: u16,
+    pub next: u16,
+    pub there: Reading,
+    pub free: u16,
+    pub after_free: u16,
+    pub head: Reading,
+}
+
+// A record's index; the head's for a number that no record has.
+fn record_index(n: u16) -> usize
+    ensures { λ r. ⌜ (r ≡ recordIndex n) × (r < mostRecords) ⌝ }
+{
+    if READINGS < n {
+        return 0;
+    }
+    n as usize
+}
+
+// Whether a record has this number.
+pub(crate) fn is_record(n: u16) -> bool
+    ensures { λ r. ⌜ r ≡ isRecord n ⌝ }
+{
+    if n == 0 {
+        return false;
+    }
+    if READINGS < n {
+        return false;
+    }
+    true
+}
+
+// The place of id. The readings are walked here and nowhere else, since each function that takes them copies them.
+pub(crate) fn site_of(rs: Readings, id: u16) -> Site
+    ensures { λ r. ⌜ (r ≡ siteOf rs id) × (r .before ≤ mostReadings) ⌝ }
 {
     let mut p: u16 = 0;
     let mut left: u16 = READINGS;
     while 0 < left {
         let at = p as usize;
         let n = rs.records[at].next;
-        if n == 0 {
-            return p;
+        if is_record(n) {
+            let k = n as usize;
+            if rs.records[k].id < id {
+                p = n;
+                left -= 1;
+            } else {
+                left = 0;
+            }
+        } else {
+            left = 0;
         }
-        if READINGS < n {
-            return p;
-        }
-        let k = n as usize;
-        let m = rs.records[k].id;
-        if id <= m {
-            return p;
-        }
-        p = n;
-        left -= 1;
     }
-    p
+    let at = p as usize;
+    let next = rs.records[at].next;
+    let k = record_index(next);
+    let there = rs.records[k];
+    let free = rs.free;
+    let f = record_index(free);
+    let after_free = rs.records[f].next;
+    let head = rs.records[0];
+    Site {
+        before: p,
+        next,
+        there,
+        free,
+        after_free,
+        head,
+    }
 }
 
-// The record after record p where it holds id, else 0.
-fn holder(rs: Readings, id: u16, p: u16) -> u16
-    requires { ⌜ p ≤ mostReadings ⌝ }
-    ensures { λ r. ⌜ (r ≤ mostReadings) × (r ≡ holderAt (rs .records) id p) ⌝ }
+// The record at the place of id where it holds id, else 0.
+pub(crate) fn holder_in(site: Site, id: u16) -> u16
+    ensures { λ r. ⌜ (r ≡ holderIn site id) × (r ≤ mostReadings) ⌝ }
 {
-    let at = p as usize;
-    let n = rs.records[at].next;
-    if n == 0 {
-        return 0;
-    }
-    if READINGS < n {
-        return 0;
-    }
-    let k = n as usize;
-    let m = rs.records[k].id;
-    if m == id {
-        return n;
+    let n = site.next;
+    if is_record(n) {
+        if site.there.id == id {
+            return n;
+        }
     }
     0
 }
@@ -133,14 +172,12 @@ pub fn find(rs: Readings, id: u16) -> Found
     ensures is { λ r. ⌜ r ≡ findOf rs id ⌝ }
     ensures means { λ r. ⌜ ((l : List Entry) → Holds rs l → r ≡ lookup id l) ⌝ }
 {
-    let p = seek(rs, id);
-    let n = holder(rs, id, p);
-    if n == 0 {
+    let site = site_of(rs, id);
+    if holder_in(site, id) == 0 {
         return Found::Nothing;
     }
-    let k = n as usize;
-    let r = rs.records[k];
-    let held = r.held;
+    let there = site.there;
+    let held = there.held;
     Found::Held(held)
 }
 
@@ -164,7 +201,7 @@ pub fn put(rs: Readings, id: u16, held: Stored) -> PutResult
     ensures is { λ r. ⌜ r ≡ putOf rs id held ⌝ }
     ensures means { λ r. ⌜ ((ls : Lists) → Rep rs ls → Puts rs ls id held r) ⌝ }
 {
-    let answer = put_edit(rs, id, held);
+    let answer = put_edit(site_of(rs, id), id, held);
     let said = answer.said;
     let edit = answer.edit;
     let readings = edited_by(rs, edit);
@@ -176,14 +213,14 @@ pub fn drop_id(rs: Readings, id: u16) -> Readings
     ensures is { λ r. ⌜ r ≡ dropId rs id ⌝ }
     ensures means { λ r. ⌜ ((ls : Lists) → Rep rs ls → Rep r (dropIn id ls)) ⌝ }
 {
-    let p = seek(rs, id);
-    let n = holder(rs, id, p);
+    let site = site_of(rs, id);
+    let n = holder_in(site, id);
     if n == 0 {
         return rs;
     }
-    let at = p as usize;
+    let at = site.before as usize;
     let k = n as usize;
-    let next = rs.records[k].next;
+    let next = site.there.next;
     let freed = free_record(rs.free);
     let mut out = rs;
     out.records[k] = freed;

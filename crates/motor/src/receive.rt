@@ -1,5 +1,5 @@
-// Receiving: what a frame does to what a motor holds. The rule stands once: a read reply is `edits`' hear_read, any other frame
-// `quiet`'s hear_state; process_feedback_frame stores what the one or the other gives.
+// Receiving: what a frame does to what a motor holds. A read reply is `edits`' hear_read, any other frame `quiet`'s hear_state, both
+// put together from the functions here; process_feedback_frame stores what the one or the other gives.
 use crate::edits::edited_by;
 use crate::edits::hear_read;
 use crate::engine::operation::HeldPing;
@@ -30,7 +30,7 @@ ghost use mathlib.Core.Bool.{_||_};
 ghost use mathlib.Core.List.{List, [], _∷_};
 ghost use lib.Dec.{eqb};
 ghost use Rattle.codec.specs.Kinds.{among};
-ghost use Rattle.motor.specs.Receive.{acceptsParts, acceptsFrame, arrivalOf, isLate, frameAdmitted, countedAt, pingAfter, feedbackAfter, faultAfter, toldBy, statusIn, readId, readStored, heardWith, processFeedbackFrame};
+ghost use Rattle.motor.specs.Receive.{acceptsParts, acceptsFrame, arrivalOf, isOutOfTime, frameAdmitted, countedAt, pingAfter, feedbackAfter, faultAfter, toldBy, statusIn, readId, readStored, heardWith, processFeedbackFrame};
 ghost use Rattle.motor.specs.Readings.{Holds};
 ghost use Rattle.motor.specs.Lone.{hears};
 ghost use Rattle.motor.specs.Motors.{HeardAs, loneOf};
@@ -85,7 +85,7 @@ fn accepts_parts(motor_id: u16, extended: bool, parts: IdParts) -> bool
     if !accepts_type(parts.comm_type) {
         return false;
     }
-    parts.extra_data % 256 == motor_id
+    parts.extra_data & 0xFF == motor_id
 }
 
 // Whether a frame is for the motor of this id: extended, of an accepted type, the id in the extra field's low byte.
@@ -96,7 +96,7 @@ pub fn accepts_frame(motor_id: u16, frame: CanFrame) -> bool
     accepts_parts(motor_id, frame.is_extended, parts)
 }
 
-fn is_read(parts: IdParts) -> bool
+pub(crate) fn is_read(parts: IdParts) -> bool
     ensures { λ r. ⌜ r ≡ eqb (parts .«comm_type») 17 ⌝ }
 {
     parts.comm_type == CommunicationType::READ_PARAMETER
@@ -106,7 +106,7 @@ pub fn arrival_of(frame: CanFrame) -> Arrival
     ensures { λ r. ⌜ r ≡ arrivalOf frame ⌝ }
 {
     let parts = ext_id_parts(frame.arbitration_id);
-    let source = parts.extra_data % 256;
+    let source = parts.extra_data & 0xFF;
     let accepted = accepts_parts(source, frame.is_extended, parts);
     let read = is_read(parts);
     Arrival {
@@ -117,8 +117,8 @@ pub fn arrival_of(frame: CanFrame) -> Arrival
 }
 
 // 7: a time below the clock, or above 10^15.
-pub(crate) fn is_late(clock: u64, now: u64) -> bool
-    ensures { λ r. ⌜ r ≡ isLate clock now ⌝ }
+pub(crate) fn is_out_of_time(clock: u64, now: u64) -> bool
+    ensures { λ r. ⌜ r ≡ isOutOfTime clock now ⌝ }
 {
     if now < clock {
         return true;
@@ -139,7 +139,7 @@ pub(crate) fn frame_admitted(
     if !accepts_parts(motor_id, extended, parts) {
         return Checked::Refused(Refusal::FrameNotAccepted);
     }
-    if is_late(clock, now) {
+    if is_out_of_time(clock, now) {
         return Checked::Refused(Refusal::TimeOutOfRange);
     }
     Checked::Passed

@@ -67,10 +67,10 @@ pub fn registration_of(
 ) -> Admission
     ensures { λ r. ⌜ r ≡ registrationOf «motor_id» «feedback_id» found «write_wait» time ⌝ }
 {
-    match ids_checked(motor_id, feedback_id) {
-        Checked::Passed => model_checked(found, write_wait, time),
-        Checked::Refused(refusal) => Admission::Refused(refusal),
+    if let Checked::Refused(refusal) = ids_checked(motor_id, feedback_id) {
+        return Admission::Refused(refusal);
     }
+    model_checked(found, write_wait, time)
 }
 
 // The same, the model named by any bytes.

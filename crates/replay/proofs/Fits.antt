@@ -64,6 +64,7 @@ reason-short reason.FrameData = these _ (omega arith)
 reason-short reason.RemoteFrame = these _ (omega arith)
 reason-short reason.FdFrame = these _ (omega arith)
 reason-short reason.ErrorFrame = these _ (omega arith)
+reason-short reason.TornLine = these _ (omega arith)
 
 error-fits : (r : Reason) → Short (errorText r) 107
 unfolding errorText

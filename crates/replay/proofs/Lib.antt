@@ -3,3 +3,7 @@ pub mod Fits
 pub mod Turning
 pub mod Cursors
 pub mod Texts
+pub mod Hearing
+pub mod Going
+pub mod Keeping
+pub mod Cutting

@@ -16,7 +16,7 @@ use Rattle.replay.specs.Reasons.{wantedText, reasonPlace, plainText, rea
 
 -- the variants that carry nothing, by their numbers
 abbrev bare : List ℕ
-bare = 0 ∷ 1 ∷ 2 ∷ 5 ∷ 6 ∷ 7 ∷ 8 ∷ 9 ∷ 10 ∷ 11 ∷ 12 ∷ []
+bare = 0 ∷ 1 ∷ 2 ∷ 5 ∷ 6 ∷ 7 ∷ 8 ∷ 9 ∷ 10 ∷ 11 ∷ 12 ∷ 13 ∷ []
 
 pub plain : (r : Reason) → OneOf bare (tagOf the-type r) → plainText r ≡ reasonText r
 unfolding reasonPlace reasonText partAt indexOf indexAfter
@@ -33,6 +33,7 @@ plain reason.FrameData h = refl
 plain reason.RemoteFrame h = refl
 plain reason.FdFrame h = refl
 plain reason.ErrorFrame h = refl
+plain reason.TornLine h = refl
 
 swap : (m n : ℕ) → eqb m n ≡ eqb n m
 swap zero zero = refl

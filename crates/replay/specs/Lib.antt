@@ -1,4 +1,5 @@
 pub mod Limits
 pub mod Reasons
 pub mod Events
+pub mod Program
 pub mod Turns

@@ -28,13 +28,13 @@ countText n = ascii "this event has " ++ decimalText n ++ ascii " words, parted 
 abbrev pub badWordText : ℕ → ℕ → List ℕ
 badWordText n letter = ascii "word " ++ decimalText n ++ ascii " isn't " ++ wantedText letter
 
--- the place of a reason that carries nothing among their texts, and 11 for any other
+-- the place of a reason that carries nothing among their texts, and 12 for any other
 unfoldable pub reasonPlace : Reason → ℕ
 reasonPlace reason.LineTooLong = 0
 reasonPlace reason.NoSuchEvent = 1
 reasonPlace reason.NoSuchCommand = 2
-reasonPlace (reason.WordCount n) = 11
-reasonPlace (reason.BadWord n letter) = 11
+reasonPlace (reason.WordCount n) = 12
+reasonPlace (reason.BadWord n letter) = 12
 reasonPlace reason.LogWords = 3
 reasonPlace reason.Stamp = 4
 reasonPlace reason.Direction = 5
@@ -43,10 +43,11 @@ reasonPlace reason.FrameData = 7
 reasonPlace reason.RemoteFrame = 8
 reasonPlace reason.FdFrame = 9
 reasonPlace reason.ErrorFrame = 10
+reasonPlace reason.TornLine = 11
 
 -- the texts of reasons that carry nothing, parted by |
 abbrev pub plainText : Reason → List ℕ
-plainText r = partAt 0x7C (ascii "a line has at most 4096 bytes|no event begins with this word|start has no such command|a log's line is (SECONDS.MICROS) IFACE ID#DATA|a time is (SECONDS.MICROS), below 2^64 ms|only R or T may follow ID#DATA|ID is 8 or 3 hexadecimal digits before a #|DATA is 0 to 8 bytes, two digits each|a remote frame isn't handed in|a CAN FD frame isn't handed in|an id above 1FFFFFFF marks an error frame") (reasonPlace r)
+plainText r = partAt 0x7C (ascii "a line has at most 4096 bytes|no event begins with this word|start has no such command|a log's line is (SECONDS.MICROS) IFACE ID#DATA|a time is (SECONDS.MICROS), below 2^64 ms|only R or T may follow ID#DATA|ID is 8 or 3 hexadecimal digits before a #|DATA is 0 to 8 bytes, two digits each|a remote frame isn't handed in|a CAN FD frame isn't handed in|an id above 1FFFFFFF marks an error frame|the input ends within a line") (reasonPlace r)
 
 unfoldable pub reasonText : Reason → List ℕ
 reasonText reason.LineTooLong = ascii "a line has at most 4096 bytes"
@@ -62,6 +63,7 @@ reasonText reason.FrameData = ascii "DATA is 0 to 8 bytes, two digits each"
 reasonText reason.RemoteFrame = ascii "a remote frame isn't handed in"
 reasonText reason.FdFrame = ascii "a CAN FD frame isn't handed in"
 reasonText reason.ErrorFrame = ascii "an id above 1FFFFFFF marks an error frame"
+reasonText reason.TornLine = ascii "the input ends within a line"
 
 -- error TEXT
 unfoldable pub errorText : Reason → List ℕ

@@ -1,12 +1,15 @@
--- Where a line stands, where its answer goes, and the line after it. Definitions only.
-use Prim.Native.Nat.{ℕ, _+_, _-_, _%_, _^_}
+-- Where a line stands, where its answer goes, and the line after it; what the lines of a read leave. Definitions only.
+use Prim.Native.Nat.{ℕ, _+_, _-_, _%_, _^_, _≤_}
+use mathlib.Core.Path.{_≡_}
 use mathlib.Core.Bool.{Bool, true, false, cond}
-use mathlib.Core.List.{List, []}
+use mathlib.Core.List.{List, [], _++_}
 use lib.Dec.{ltb, leb}
 use lib.ListN.{length, take, drop}
 use Rattle.bytes.specs.Bytes.{slice, indexOf}
 use Rattle.replay.specs.declared.cursor.Cursor.{Cursor}
+use Rattle.station.specs.declared.station.Station.{Station}
 use Rattle.replay.specs.Limits.{outputRoom}
+use Rattle.replay.specs.Program.{heard, hearAll}
 
 -- the bytes between two places, none where there are no such places
 unfoldable pub lineAt : List ℕ → ℕ → ℕ → List ℕ
@@ -24,6 +27,10 @@ cursorFrom inp n from place left good =
     let one : Cursor = record { from = from; «end» = end; «at» = place; left = n - end; more = true; good = good } in
     cond (ltb end n) (cond (ltb (n - end) left) one none) none
 
+-- the first line's
+abbrev pub firstLine : List ℕ → ℕ → Cursor
+firstLine inp n = cursorFrom inp n 0 0 (2 ^ 64 - 1) true
+
 -- the cursor after this one: the line that begins behind its LF
 abbrev pub cursorAfter : List ℕ → ℕ → Cursor → ℕ → Bool → Cursor
 cursorAfter inp n c place good = cursorFrom inp n ((c .«end» + 1) % 2 ^ 64) place (c .left) good
@@ -31,3 +38,13 @@ cursorAfter inp n c place good = cursorFrom inp n ((c .«end» + 1) % 2 ^ 64) pl
 -- an answer is put at the front of the buffer where less than an answer's length is free
 unfoldable pub roomAt : ℕ → ℕ
 roomAt p = cond (ltb outputRoom p) 0 p
+
+-- the lines that end among the bytes were answered: the station after them, and a cursor at what follows the last LF. The end of
+-- their text stands in the buffer, and what stood there before it was written
+pub record LinesTaken (before : Station) (bytes : List ℕ) (after : Station) (c : Cursor) (out : List ℕ) : Type 0 where
+  pub station-is : after ≡ hearAll (heard before [] []) bytes .station
+  pub begins : c .from ≤ length bytes
+  pub line-is : drop (c .from) bytes ≡ hearAll (heard before [] []) bytes .line
+  pub fits : c .«at» ≤ length out
+  pub written : List ℕ
+  pub text-is : written ++ take (c .«at») out ≡ hearAll (heard before [] []) bytes .text

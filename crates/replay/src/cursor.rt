@@ -70,7 +70,9 @@ fn line_from(inp: &[u8], n: usize, from: usize, at: usize, left: usize, good: bo
 }
 
 // The first line.
-pub(crate) fn first_line(inp: &[u8], n: usize) -> Cursor {
+pub(crate) fn first_line(inp: &[u8], n: usize) -> Cursor
+    ensures { λ r. ⌜ r ≡ turn.firstLine (now (inp .entry)) n ⌝ }
+{
     line_from(inp, n, 0, 0, usize::MAX, true)
 }
 

@@ -30,7 +30,7 @@ fn put_plain(reason: Reason, out: &mut [u8], at: usize) -> usize
 {
     let k = reason_place(reason);
     let text = text::part(
-        b"a line has at most 4096 bytes|no event begins with this word|start has no such command|a log's line is (SECONDS.MICROS) IFACE ID#DATA|a time is (SECONDS.MICROS), below 2^64 ms|only R or T may follow ID#DATA|ID is 8 or 3 hexadecimal digits before a #|DATA is 0 to 8 bytes, two digits each|a remote frame isn't handed in|a CAN FD frame isn't handed in|an id above 1FFFFFFF marks an error frame",
+        b"a line has at most 4096 bytes|no event begins with this word|start has no such command|a log's line is (SECONDS.MICROS) IFACE ID#DATA|a time is (SECONDS.MICROS), below 2^64 ms|only R or T may follow ID#DATA|ID is 8 or 3 hexadecimal digits before a #|DATA is 0 to 8 bytes, two digits each|a remote frame isn't handed in|a CAN FD frame isn't handed in|an id above 1FFFFFFF marks an error frame|the input ends within a line",
         b'|',
         k,
     );
@@ -52,8 +52,9 @@ fn reason_place(reason: Reason) -> usize
         Reason::RemoteFrame => 8,
         Reason::FdFrame => 9,
         Reason::ErrorFrame => 10,
-        Reason::WordCount(_) => 11,
-        Reason::BadWord(_, _) => 11,
+        Reason::WordCount(_) => 12,
+        Reason::BadWord(_, _) => 12,
+        Reason::TornLine => 11,
     }
 }
 

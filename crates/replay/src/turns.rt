@@ -28,11 +28,14 @@ use station::station::Looked;
 use station::station::new;
 ghost use mathlib.Core.Path.{_≡_};
 ghost use mathlib.Core.Bool.{true};
-ghost use Prim.Native.Nat.{_<_};
+ghost use mathlib.Core.List.{_++_};
+ghost use Prim.Native.Nat.{_≤_, _<_};
+ghost use lib.ListN.{length, take};
 ghost use Rattle.text.specs.Put.{Put};
 ghost use Rattle.answers.specs.Looks.{lookedText};
 ghost use Rattle.station.specs.Calls.{timeOf};
 ghost use Rattle.station.specs.lent.Lent.{stationOf};
+ghost use Rattle.replay.specs.Limits.{bufferSize};
 ghost use Rattle.replay.specs.Events as spec;
 ghost use Rattle.replay.specs.Turns as turn;
 
@@ -145,7 +148,8 @@ pub(crate) fn take_line(
     out: &mut [u8],
     c: Cursor,
 ) -> Cursor
-    ensures { λ r. ⌜ (stationOf (now (motors .exit)) ≡ spec.stationAfterLine (stationOf (now (motors .entry))) (turn.lineAt (now (inp .entry)) (c .from) (c .end))) × Put (now (out .entry)) (turn.roomAt (c .«at»)) (spec.textAfterLine (stationOf (now (motors .entry))) (turn.lineAt (now (inp .entry)) (c .from) (c .end))) (now (out .exit)) (r .«at») × (r .more ≡ true → r .left < c .left) × (r ≡ turn.cursorAfter (now (inp .entry)) n c (r .«at») (r .good)) ⌝ }
+    requires { ⌜ length (now out) ≡ bufferSize ⌝ }
+    ensures { λ r. ⌜ (stationOf (now (motors .exit)) ≡ spec.stationAfterLine (stationOf (now (motors .entry))) (turn.lineAt (now (inp .entry)) (c .from) (c .end))) × Put (now (out .entry)) (turn.roomAt (c .«at»)) (spec.textAfterLine (stationOf (now (motors .entry))) (turn.lineAt (now (inp .entry)) (c .from) (c .end))) (now (out .exit)) (r .«at») × (r .more ≡ true → r .left < c .left) × (r ≡ turn.cursorAfter (now (inp .entry)) n c (r .«at») (r .good)) × (take (r .«at») (now (out .exit)) ≡ take (turn.roomAt (c .«at»)) (now (out .entry)) ++ spec.textAfterLine (stationOf (now (motors .entry))) (turn.lineAt (now (inp .entry)) (c .from) (c .end))) ⌝ }
 {
     let line = line_at(inp, c);
     let event = line.event;
@@ -170,7 +174,10 @@ pub(crate) fn take_line(
 }
 
 // The lines that end among the first n bytes.
-pub(crate) fn take_lines(motors: [Motor; MOTORS], inp: &[u8], n: usize, out: &mut [u8]) -> Taken {
+pub(crate) fn take_lines(motors: [Motor; MOTORS], inp: &[u8], n: usize, out: &mut [u8]) -> Taken
+    requires { ⌜ (n ≤ length (now inp)) × (length (now inp) ≡ bufferSize) × (length (now out) ≡ bufferSize) ⌝ }
+    ensures { λ r. ⌜ turn.LinesTaken (stationOf motors) (take n (now (inp .entry))) (stationOf (r .motors)) (r .cursor) (now (out .exit)) ⌝ }
+{
     let mut motors = motors;
     let mut cursor = first_line(inp, n);
     while cursor.more {

@@ -1,19 +1,22 @@
--- What one more word, one more zero and a search do to what is read. Assumes nothing.
-use Prim.Native.Nat.{ℕ, suc, _+_, _*_, _-_, _/_, _≤_, _<_}
-use mathlib.Core.Path.{_≡_}
-use mathlib.Core.List.{List}
+-- What one more word, one more zero, a search and one more row do to what is read. Assumes nothing.
+use Prim.Native.Nat.{ℕ, zero, suc, _+_, _*_, _-_, _/_, _≤_, _<_}
+use mathlib.Core.Path.{_≡_, refl, ap, sym, _∙_}
+use mathlib.Core.Bool.{Bool, true, false, cond}
+use mathlib.Core.List.{List, [], _∷_}
 use native.Mathlib.Omega.{arith}
 use native.Mathlib.Nat.{le-div-iff-mul-le, div-lt-iff-lt-mul}
-use lib.ListN.{length, take, drop, getD, set}
+use lib.ListN.{length, take, drop, getD, set, length-drop}
 use lib.Seq.{take-length}
 use borrow.Author.Tests.{lt-ltb, le-ltb}
-use Rattle.bytes.specs.Bytes.{indexOf, slice}
+use Rattle.bytes.specs.Bytes.{indexOf, indexAfter, slice}
 use Rattle.text.specs.declared.numbers.Num.{Num}
 use Rattle.text.specs.declared.numbers.Num.the-variants.{Value, Bad}
 use Rattle.text.specs.Numbers.{digitsIn}
-use Rattle.text.specs.Words.{wordAt}
+use Rattle.text.specs.Words.{wordAt, pastWord, sameBytes}
+use Rattle.text.proofs.Reading.{past-first}
 use Rattle.session.specs.Arguments.{argumentOf, readOn}
 use Rattle.session.specs.Heard.{shiftedBy, millisecondsOf}
+use Rattle.session.specs.Table.{pastRow, rowFrom, placeOf}
 
 -- ---- the arguments from place i on, of n in all
 
@@ -76,3 +79,63 @@ parts w n h =
 pub whole : (b : ℕ) (s : List ℕ) → 0 + indexOf b (slice 0 (length s) s) ≡ indexOf b s
 unfolding slice
 whole b s = rw take-length (omega arith)
+
+-- ---- the rows of a table
+
+row-past : (table : List ℕ) → length (pastRow table) ≤ length table - 1
+row-past table = rw (length-drop, length-drop) (omega arith)
+
+pub row-shorter : (table : List ℕ) → (length table ≡ 0 → ⊥) → length (pastRow table) < length table
+row-shorter table z = let l = row-past table in omega (arith, l)
+
+-- the table past a name and its shape, by two searches
+pub past-row : (table shape rest : List ℕ) (end stop : ℕ) → end ≡ 0 + indexOf 32 (slice 0 (length table) table) → shape ≡ drop (end + 1) table
+    → stop ≡ 0 + indexOf 32 (slice 0 (length shape) shape) → rest ≡ drop (stop + 1) shape → rest ≡ pastRow table
+past-row table shape rest end stop e s f r = r ∙ past-first shape stop f ∙ ap (λ (l : List ℕ). pastWord l) (s ∙ past-first table end e)
+
+module _ (w : List ℕ) where
+  row-none : (n : ℕ) → rowFrom [] n w ≡ 0
+  unfolding rowFrom indexOf indexAfter
+  row-none zero = refl
+  row-none (suc n) = go (sameBytes w (wordAt [] 0)) (row-none n)
+    where
+      go : (b : Bool) → rowFrom [] n w ≡ 0 → cond b 0 (0 + rowFrom [] n w) ≡ 0
+      go true e = refl
+      go false e = omega (arith, e)
+
+  row-empty : (table : List ℕ) (n : ℕ) → length table ≤ 0 → rowFrom table n w ≡ 0
+  row-empty [] n h = row-none n
+  row-empty (b ∷ s) n h = absurd (omega arith)
+
+  -- more rows than a table has bytes make no difference
+  rows-enough : (n m : ℕ) (table : List ℕ) → length table ≤ n → length table ≤ m → rowFrom table n w ≡ rowFrom table m w
+  unfolding rowFrom
+  rows-enough zero m table h k = row-empty table zero h ∙ sym (row-empty table m h)
+  rows-enough (suc n) zero table h k = row-empty table (suc n) k ∙ sym (row-empty table zero k)
+  rows-enough (suc n) (suc m) table h k =
+      let l = row-past table in
+      rw (rows-enough n m (pastRow table) (omega (arith, l)) (omega (arith, l)))
+
+  module _ (table : List ℕ) where
+    pub place-end : length table ≡ 0 → 0 ≡ placeOf table w
+    unfolding placeOf rowFrom
+    place-end e = rw e (sym e)
+
+    row-later : (n : ℕ) → sameBytes w (wordAt table 0) ≡ false
+        → rowFrom table (suc n) w ≡ length table - length (pastRow table) + rowFrom (pastRow table) n w
+    unfolding rowFrom
+    row-later n e = rw e
+
+    module _ (z : length table ≡ 0 → ⊥) where
+      pub place-here : sameBytes w (wordAt table 0) ≡ true → 0 ≡ placeOf table w
+      unfolding placeOf rowFrom
+      place-here e = let p : length table ≡ suc (length table - 1) = omega arith in rw (p, e)
+
+      pub place-later : sameBytes w (wordAt table 0) ≡ false
+          → length table - length (pastRow table) + placeOf (pastRow table) w ≡ placeOf table w
+      unfolding placeOf
+      place-later e =
+          let p : length table ≡ suc (length table - 1) = omega arith in
+          let l = row-shorter table z in
+          ap (λ (k : ℕ). length table - length (pastRow table) + k) (rows-enough (length (pastRow table)) (length table - 1) (pastRow table) (omega arith) (omega arith))
+          ∙ sym (ap (λ (k : ℕ). rowFrom table k w) p ∙ row-later (length table - 1) e)

@@ -1,6 +1,6 @@
 -- The command of a start. k is its row of the table, and v has the line's numbers, the arguments from place 3 on. Definitions
 -- only.
-use Prim.Native.Nat.{ℕ, _+_, _/_, _%_, _^_}
+use Prim.Native.Nat.{ℕ, _+_, _%_, _^_}
 use mathlib.Core.Bool.{Bool, true, false, cond}
 use mathlib.Core.List.{List, [], _∷_}
 use lib.Dec.{eqb, leb}
@@ -23,7 +23,7 @@ use Rattle.session.specs.declared.arguments.Fitting.the-variants as fit
 use Rattle.session.specs.declared.event.Event.{Event}
 use Rattle.session.specs.declared.event.Event.the-variants as event
 use Rattle.session.specs.declared.event.Reason.the-variants as reason
-use Rattle.session.specs.Table.{commands, placeOf}
+use Rattle.session.specs.Table.{commands, placeOf, shapeAt, rowAt}
 use Rattle.session.specs.Events.{error}
 use Rattle.session.specs.Arguments.{argumentsOf, fitOf}
 
@@ -135,7 +135,7 @@ abbrev pub startedBy : List ℕ → List ℕ → ℕ → Event
 startedBy line shape k = ifFit (fitOf line shape (argumentsOf line shape .good)) (startEvent k shape (argumentsOf line shape .v))
 
 abbrev pub startedAs : List ℕ → ℕ → Event
-startedAs line at = orEvent (eqb (at % 2) 1) (error reason.NoSuchCommand) (startedBy line (wordAt commands (at + 1)) (at / 2))
+startedAs line at = orEvent (eqb at (length commands)) (error reason.NoSuchCommand) (startedBy line (shapeAt commands at) (rowAt commands at))
 
 -- start ID TIME COMMAND ARGS
 unfoldable pub started : List ℕ → Event

@@ -1,5 +1,5 @@
 -- What a line says. Definitions only.
-use Prim.Native.Nat.{ℕ, _+_, _-_, _/_, _%_, _^_}
+use Prim.Native.Nat.{ℕ, _-_, _%_, _^_}
 use mathlib.Core.Bool.{Bool, cond}
 use mathlib.Core.List.{List}
 use lib.Dec.{eqb, ltb}
@@ -14,7 +14,7 @@ use Rattle.session.specs.declared.event.Line.{Line}
 use Rattle.session.specs.declared.event.Other.the-variants as other
 use Rattle.session.specs.declared.event.Reason.the-variants as reason
 use Rattle.session.specs.Limits.{longestLine}
-use Rattle.session.specs.Table.{events, placeOf}
+use Rattle.session.specs.Table.{events, placeOf, shapeAt, rowAt}
 use Rattle.session.specs.Arguments.{argumentsOf, fitOf}
 use Rattle.session.specs.Commands.{byte, half, started}
 use Rattle.session.specs.Events.{bare, bad, canFrame, hands, orLine}
@@ -54,7 +54,7 @@ unfoldable pub called : List ℕ → List ℕ → ℕ → Line
 called line shape k = orLine (eqb k 6) (bare (started line)) (calledBy line shape k)
 
 abbrev pub lineBy : List ℕ → ℕ → Line
-lineBy line at = orLine (eqb (at % 2) 1) (bad reason.NoSuchEvent) (called line (wordAt events (at + 1)) (at / 2))
+lineBy line at = orLine (eqb at (length events)) (bad reason.NoSuchEvent) (called line (shapeAt events at) (rowAt events at))
 
 -- Blank lines and comments are nothing; a line has at most 4,096 bytes; one that begins with ( is a line of a log; else the first
 -- word says which event it is.

@@ -1,10 +1,10 @@
 -- The words of a session. Of commands and events a table has a row for each: its name, and the shape of its line. Definitions only.
-use Prim.Native.Nat.{ℕ}
+use Prim.Native.Nat.{ℕ, zero, suc, _+_, _-_, _/_}
 use mathlib.Core.Bool.{cond}
 use mathlib.Core.List.{List}
-use lib.Dec.{eqb}
+use lib.ListN.{length, take, drop}
 use Rattle.text.specs.Ascii.{ascii}
-use Rattle.text.specs.Words.{wordCount, whichOf}
+use Rattle.text.specs.Words.{wordCount, wordAt, pastWord, sameBytes}
 
 -- the commands of a start, each with the shape of the whole line
 abbrev pub commands : List ℕ
@@ -20,9 +20,22 @@ modes = ascii "mit pp velocity csp"
 abbrev pub kinds : List ℕ
 kinds = ascii "i8 u8 u16 u32 f32"
 
-abbrev pub foundAt : ℕ → ℕ → ℕ
-foundAt at n = cond (eqb at n) 1 at
+-- what follows a name and its shape
+abbrev pub pastRow : List ℕ → List ℕ
+pastRow table = pastWord (pastWord table)
 
--- where a name stands among the words of a table, an even place; an odd one, a shape's or 1, for no name
+-- where the row of a name begins among the first n rows; the table's length where none of these has the name
+unfoldable pub rowFrom : List ℕ → ℕ → List ℕ → ℕ
+rowFrom table zero w = length table
+rowFrom table (suc n) w = cond (sameBytes w (wordAt table 0)) 0 (length table - length (pastRow table) + rowFrom (pastRow table) n w)
+
+-- where the row of a name begins in a table, which has no more rows than bytes
 unfoldable pub placeOf : List ℕ → List ℕ → ℕ
-placeOf table w = foundAt (whichOf table (wordCount table) w) (wordCount table)
+placeOf table w = rowFrom table (length table) w
+
+-- the shape of the row at a place, and the row's number
+abbrev pub shapeAt : List ℕ → ℕ → List ℕ
+shapeAt table at = wordAt (drop at table) 1
+
+abbrev pub rowAt : List ℕ → ℕ → ℕ
+rowAt table at = wordCount (take at table) / 2

@@ -23,15 +23,17 @@ ghost use Rattle.session.specs.Commands as spec;
 pub(crate) fn started(line: &[u8]) -> Event
     ensures { λ r. ⌜ r ≡ spec.started (now (line .entry)) ⌝ }
 {
-    let at = place(&COMMANDS, text::word(line, 3));
-    if at % 2 == 1 {
+    let table: &[u8] = &COMMANDS;
+    let at = place(table, text::word(line, 3));
+    if at == table.len() {
         return Event::Other(Other::Error(Reason::NoSuchCommand));
     }
-    let shape = text::word(&COMMANDS, at + 1);
+    let shape = text::word(&table[at..], 1);
+    let k = text::word_count(&table[..at]) / 2;
     let args = arguments(line, shape);
     let v = args.v;
     match fit(line, shape, args.good) {
-        Fitting::Good => start_event(at / 2, shape, v),
+        Fitting::Good => start_event(k, shape, v),
         Fitting::Bad(reason) => Event::Other(Other::Error(reason)),
     }
 }

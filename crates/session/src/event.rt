@@ -20,6 +20,7 @@ pub enum Reason {
     RemoteFrame,
     FdFrame,
     ErrorFrame,
+    TornLine,
 }
 
 // What a line says besides calls: nothing, which is a blank line or a comment; no event; a fresh station.

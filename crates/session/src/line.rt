@@ -56,11 +56,13 @@ pub fn read_line(line: &[u8]) -> Line
     if line[0] == b'(' {
         return heard(line);
     }
-    let at = place(&EVENTS, text::word(line, 0));
-    if at % 2 == 1 {
+    let table: &[u8] = &EVENTS;
+    let at = place(table, text::word(line, 0));
+    if at == table.len() {
         return bad(Reason::NoSuchEvent);
     }
-    called(line, text::word(&EVENTS, at + 1), at / 2)
+    let k = text::word_count(&table[..at]) / 2;
+    called(line, text::word(&table[at..], 1), k)
 }
 
 // The event of row k. A start's line is read by its command.

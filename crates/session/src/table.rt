@@ -1,6 +1,8 @@
 // The words of a session, a table for each kind. Of commands and events a table has a row for each: its name, and the shape of
 // its line (see arguments), all of them words. The Rust has the commands' names and their order.
 ghost use mathlib.Core.Path.{_≡_};
+ghost use Prim.Native.Nat.{_≤_};
+ghost use lib.ListN.{length};
 ghost use Rattle.session.specs.Table.{placeOf};
 
 // The commands of a start, each with the shape of the whole line.
@@ -19,14 +21,19 @@ pub const MODES: [u8; 19] = *b"mit pp velocity csp";
 
 pub const KINDS: [u8; 17] = *b"i8 u8 u16 u32 f32";
 
-// Where a name stands among the words of a table, an even place; an odd one for no name.
+// Where the row of a name begins in a table; the table's length where no row has the name.
 pub(crate) fn place(table: &[u8], w: &[u8]) -> usize
-    ensures { λ r. ⌜ r ≡ placeOf (now (table .entry)) (now (w .entry)) ⌝ }
+    ensures { λ r. ⌜ (r ≡ placeOf (now (table .entry)) (now (w .entry))) × (r ≤ length (now (table .entry))) ⌝ }
 {
-    let n = text::word_count(table);
-    let at = text::which(table, n, w);
-    if at == n {
-        return 1;
+    if table.len() == 0 {
+        return 0;
     }
-    at
+    let end = bytes::scan::find(table, 0, table.len(), b' ');
+    if text::same_bytes(w, &table[..end]) {
+        return 0;
+    }
+    let shape = text::past(table, end);
+    let stop = bytes::scan::find(shape, 0, shape.len(), b' ');
+    let rest = text::past(shape, stop);
+    (table.len() - rest.len()) + place(rest, w)
 }

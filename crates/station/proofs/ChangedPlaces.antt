@@ -23,7 +23,7 @@ use Rattle.motor.specs.declared.readings.Readings.{Readings}
 use Rattle.motor.specs.Calls.{isIdle, stepSaid, noCommand, sightOf, stateBy, readingsBy, wanted}
 use Rattle.motor.specs.Motors.{stepBy, stepOf, removalOf}
 use Rattle.motor.specs.Readings.{findOf, putOf, dropId}
-use Rattle.motor.specs.Receive.{acceptsFrame, isLate, countedAt, readId, readStored, frameSaid, stateAfter, readingsAfter, isFull, processFeedbackFrame}
+use Rattle.motor.specs.Receive.{acceptsFrame, isOutOfTime, countedAt, readId, readStored, frameSaid, stateAfter, readingsAfter, isFull, processFeedbackFrame}
 use Rattle.motor.proofs.Ends.{Closed, advance-ends}
 use Rattle.motor.proofs.Stays.{Stays, step-stays, running}
 use Rattle.station.specs.declared.station.Station.{Station}
@@ -32,18 +32,10 @@ use Rattle.station.specs.Calls.{step, frame, remove, gives, ok, says, an
 use Rattle.station.specs.Station.{sourceOf}
 use Rattle.station.specs.Stations.{freeMotor, takenPlace, motorAt, withMotor, atPlace, tell, movedAt, notMoved, heardAt, removedAt, stepIn, frameIn, removeIn}
 use Rattle.station.specs.Demands.{number, countingNumbers, endingNumbers}
-use Rattle.station.proofs.Contracts.{replyIn, next, givenBy, given}
-use Rattle.station.proofs.Elsewhere.{either, at-place, placeBy, placeFor}
+use Rattle.station.specs.Code.{replyIn, next, givenBy, given, placeBy, placeFor, raisedAt, failedAt}
+use Rattle.station.proofs.Elsewhere.{either, at-place}
 use Rattle.station.proofs.Changed.{moving}
 use Rattle.station.proofs.Steps.{no-ok}
-
--- the motor at a place with the clock at this time, and its response count raised, or its operation over
-abbrev pub raisedAt : Station → ℕ → ℕ → Station
-raisedAt st i now = withMotor st i (record { state = countedAt (motorAt st i .state) now; readings = motorAt st i .readings })
-
-abbrev pub failedAt : Station → ℕ → ℕ → Station
-failedAt st i now =
-    withMotor st i (record { state = stateBy (motorAt st i .state) now noCommand noOperation effect.Nothing; readings = motorAt st i .readings })
 
 -- ---- 14 and 15
 
@@ -109,7 +101,7 @@ motor-ended y now = go (stepSaid (y .state .clock) p now) refl (step-stays (y .s
         let f = wanted p (λ id. findOf (y .readings) id) in
         let v = advanced (sightOf (y .state)) now (y .state .operation) f p in
         over (v .said) (v .operation) (v .effect) (v .frame) (v .result)
-        (advance-ends (sightOf (y .state)) now (y .state .operation) f p (running (isLate (y .state .clock) now) (isIdle p) q)) e
+        (advance-ends (sightOf (y .state)) now (y .state .operation) f p (running (isOutOfTime (y .state .clock) now) (isIdle p) q)) e
     go (checked.Refused r) q s e = absurd (true≢false (sym (moving r e) ∙ s))
 
 module _ (st : Station) (m now : ℕ) where

@@ -1,19 +1,14 @@
--- What a call gives, by the definitions, is document 01's; and by the six functions' own contracts it is what they return. `Reads.Post`
--- of a function is what its contract promises, as the check has read it: a contract that is weakened or dropped breaks this file.
+-- What a call gives, by the definitions, is document 01's; and by the six functions' own contracts (Promises) it is what they return: a
+-- contract that is weakened or dropped breaks this file.
 -- Assumes nothing.
 use mathlib.Core.Path.{_≡_, refl, sym, ap, _∙_, subst}
 use mathlib.Core.List.{List, [], _∷_}
 use mathlib.Core.Option.{Option, none, some}
 use Prim.Native.Nat.{ℕ}
-use base.Fml.{Lft}
-use denote.Ref.{RefT, now}
 use Rattle.codec.specs.declared.bus.CanFrame.{CanFrame}
-use Rattle.codec.specs.declared.error.Checked.the-variants as checked
 use Rattle.codec.specs.declared.error.Refusal.the-variants as refusal
 use Rattle.codec.specs.declared.model.ModelNamed.{ModelNamed}
-use Rattle.codec.specs.Models.{modelNamed}
 use Rattle.motor.specs.Lone.{Lone, loneLook}
-use Rattle.station.specs.declared.call.Answer.the-variants as answer
 use Rattle.station.specs.declared.call.Asked.{Asked}
 use Rattle.station.specs.declared.call.Call.{Call}
 use Rattle.station.specs.declared.call.Call.the-variants as call
@@ -23,46 +18,11 @@ use Rattle.station.specs.declared.station.Station.{Station}
 use Rattle.station.specs.Calls.{look, Reply, reply, gives, shows, refused, refuses}
 use Rattle.station.specs.Station.{Place, held, loneBy, route, stationBy, stationCall}
 use Rattle.station.specs.Stations.{registerIn, startIn, stepIn, frameIn, lookIn, removeIn, replyOf, Shows, LeavesAs}
+use Rattle.station.specs.Code.{Out, after, looked, replyIn, next, givenBy, given, Follows, seen, shown}
 use Rattle.station.proofs.Meanings.{register-means, start-means, step-means, frame-means, look-means, remove-means}
-use Rattle.station.proofs.station.new.Reads as new-reads
-use Rattle.station.proofs.station.register.Reads as register-reads
-use Rattle.station.proofs.station.start.Reads as start-reads
-use Rattle.station.proofs.station.step.Reads as step-reads
-use Rattle.station.proofs.station.frame.Reads as frame-reads
-use Rattle.station.proofs.station.look.Reads as look-reads
-use Rattle.station.proofs.station.remove.Reads as remove-reads
-
--- ---- what a call returns
-
--- A look returns no station, and changes none.
-pub data Out : Type 0 where
-  after : After → Out
-  looked : Looked → Out
-
-unfoldable pub replyIn : Out → Reply
-replyIn (after r) = gives (r .replied)
-replyIn (looked r) = replyOf r
-
-unfoldable pub next : Station → Out → Station
-next st (after r) = r .station
-next st (looked r) = st
-
--- by the definitions, whatever the station
-unfoldable pub givenBy : Station → Call → CanFrame → Out
-givenBy st (call.Register m h k w t) f = after (registerIn st m h k w t)
-givenBy st (call.Start m c t) f = after (startIn st m c t)
-givenBy st (call.Step m t) f = after (stepIn st m t)
-givenBy st (call.Frame t) f = after (frameIn st f t)
-givenBy st (call.Look m) f = looked (lookIn st m)
-givenBy st (call.Remove m t) f = after (removeIn st m t)
-
-abbrev pub given : Station → Asked → Out
-given st a = givenBy st (a .call) (a .frame)
+use Rattle.station.proofs.Promises.{GivesBy, Gives}
 
 -- ---- it is a call of document 01
-
-abbrev pub Follows : Station → Out → Reply × List Place → Type 0
-Follows st o r = (replyIn o ≡ r .0) × Shows (next st o) (r .1)
 
 after-follows : (st : Station) (r : After) (x : Reply × List Place) → LeavesAs r x → Follows st (after r) x
 unfolding replyIn next
@@ -93,14 +53,6 @@ by-meaning st s x a P p =
     let t = (stationCall s a) .1 in
     (t, f .1, subst (λ (r : Reply). P r t) (sym (f .0)) p)
 
--- What a look at m shows: clock, counts, feedback, fault report, ping reply, readings, gains and operation.
-unfoldable pub seen : Station → ℕ → Reply
-seen st m = replyOf (lookIn st m)
-
-unfoldable pub shown : Option Lone → Reply
-shown none = gives (reply (answer.Looked (checked.Refused refusal.IdNotRegistered)))
-shown (some h) = shows (loneLook h)
-
 -- a look shows what is held
 pub seen-is : (st : Station) (s : List Place) (m : ℕ) → Shows st s → seen st m ≡ shown (held s m)
 unfolding seen shown stationBy route refused loneBy
@@ -111,31 +63,6 @@ seen-is st s m x = ap (λ (a : Reply × List Place). a .0) (look-means st s x m)
     go (some h) = refl
 
 -- ---- the functions' own contracts
-
--- What they promise of a new station, and of what a call returns; a registration is given a name that names the model.
-abbrev pub New : Station → Type 0
-New st = new-reads.Post tt tt st tt
-
-abbrev Registers : Station → ℕ → ℕ → ModelNamed → ℕ → ℕ → After → Type 0
-Registers st m h k w t r =
-    (κ : Lft) × (n : RefT (List ℕ)) × (modelNamed (now n) ≡ k) × register-reads.Post (κ, tt) (st, (m, (h, (n, (w, (t, tt)))))) r (st, (m, (h, (n, (w, (t, tt))))))
-
-abbrev pub GivesBy : Station → Call → CanFrame → Out → Type 0
-GivesBy st (call.Register m h k w t) f (after r) = Registers st m h k w t r
-GivesBy st (call.Register m h k w t) f (looked r) = ⊥
-GivesBy st (call.Start m c t) f (after r) = start-reads.Post tt (st, (m, (c, (t, tt)))) r (st, (m, (c, (t, tt))))
-GivesBy st (call.Start m c t) f (looked r) = ⊥
-GivesBy st (call.Step m t) f (after r) = step-reads.Post tt (st, (m, (t, tt))) r (st, (m, (t, tt)))
-GivesBy st (call.Step m t) f (looked r) = ⊥
-GivesBy st (call.Frame t) f (after r) = frame-reads.Post tt (st, (f, (t, tt))) r (st, (f, (t, tt)))
-GivesBy st (call.Frame t) f (looked r) = ⊥
-GivesBy st (call.Look m) f (after r) = ⊥
-GivesBy st (call.Look m) f (looked r) = look-reads.Post tt (st, (m, tt)) r (st, (m, tt))
-GivesBy st (call.Remove m t) f (after r) = remove-reads.Post tt (st, (m, (t, tt))) r (st, (m, (t, tt)))
-GivesBy st (call.Remove m t) f (looked r) = ⊥
-
-abbrev pub Gives : Station → Asked → Out → Type 0
-Gives st a o = GivesBy st (a .call) (a .frame) o
 
 -- by the first clauses it is the definition's value
 gives-by : (st : Station) (c : Call) (f : CanFrame) (o : Out) → GivesBy st c f o → givenBy st c f ≡ o

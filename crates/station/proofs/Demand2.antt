@@ -11,8 +11,9 @@ use Rattle.codec.specs.declared.bus.CanFrame.{CanFrame}
 use Rattle.codec.specs.declared.error.Checked.{Checked}
 use Rattle.codec.specs.declared.error.Checked.the-variants as checked
 use Rattle.codec.specs.declared.error.Refusal.the-variants as refusal
+use Rattle.codec.specs.declared.protocol.EncodedValue.the-variants as encoded
 use Rattle.codec.specs.declared.protocol.ParameterValue.{ParameterValue}
-use Rattle.codec.proofs.RoundTrips.{InRange}
+use Rattle.codec.specs.Values.{rawOf, encodeParameterValue, encodeParameterWrite, InRange}
 use Rattle.motor.specs.declared.engine.command.Command.the-variants as command
 use Rattle.motor.specs.declared.engine.reading.Found.the-variants as found
 use Rattle.motor.specs.declared.motor.Seen.{Seen}
@@ -20,7 +21,7 @@ use Rattle.motor.specs.declared.readings.Entry.{Entry}
 use Rattle.motor.specs.Lone.{Lone, hears, loneLook}
 use Rattle.motor.specs.Readings.{lookup}
 use Rattle.motor.specs.Receive.{isRead}
-use Rattle.motor.proofs.Echo.{Carries}
+use Rattle.motor.specs.Echo.{Carries}
 use Rattle.station.specs.declared.call.Asked.{Asked}
 use Rattle.station.specs.declared.call.Call.the-variants as call
 use Rattle.station.specs.declared.station.Looked.{Looked}
@@ -29,12 +30,15 @@ use Rattle.station.specs.Calls.{start, frame, look, Reply, ok, shows, re
 use Rattle.station.specs.Station.{Place, empty, held, loneBy, route, sourceOf, stationBy, stationCall}
 use Rattle.station.specs.Stations.{Shows, shownBy, replyOf}
 use Rattle.station.specs.History.{after}
-use Rattle.station.specs.Demand2.{unrefused, sentIn, reading, In, telling, HeldReading, Demand2}
-use Rattle.station.proofs.Contracts.{Out, looked, replyIn, next, given, New, Gives as GivesByValue, gives-given, gives-means, Follows}
-use Rattle.station.proofs.Definitions.{ids, parameters, motion-values, status-values, receive-rules, operations}
-use Rattle.station.proofs.EchoAtStation.{taken-in, put-some, station-echo}
+use Rattle.station.specs.Demand2.{unrefused, sentIn, reading, In, Demand2}
+use Rattle.station.specs.Code.{Out, looked, replyIn, next, given, readingsIn, ending}
+use Rattle.station.specs.CodeDemands.{CodeEcho, CodeEchoOfCall, CodeReadings, CodeDemand2}
+use Rattle.station.proofs.Contracts.{gives-given, gives-means}
+use Rattle.station.proofs.Definitions.{ids, parameters, motion-values, status-values, receive-rules, operations, thin-rules, codec-asks, motor-asks}
+use Rattle.station.proofs.EchoAtStation.{taken-in, put-some, station-echo, wrote, station-echo-of-call, station-writes}
 use Rattle.station.proofs.HeldReadings.{held-readings}
-use Rattle.station.proofs.Promised.{Ran, ending, one, end-is}
+use Rattle.station.proofs.Promised.{one, end-is}
+use Rattle.station.proofs.Promises.{New, Gives as ByValue}
 
 pub demand2 : Demand2
 demand2 =
@@ -45,39 +49,16 @@ demand2 =
       status-values = status-values;
       receive-rules = receive-rules;
       operations = operations;
+      thin-rules = thin-rules;
+      codec-asks = codec-asks;
+      motor-asks = motor-asks;
       echo = station-echo;
+      echo-of-call = station-echo-of-call;
+      writes = station-writes;
       readings = held-readings;
     }
 
 -- ---- echo and held readings, as a look shows them
-
--- the readings that a look shows
-abbrev pub readingsIn : Looked → List Entry
-readingsIn l = take (l .seen .readings .count) (l .seen .readings .entries)
-
-module _ (Gives : Station → Asked → Out → Type 0) where
-  -- Where the contracts allow these results, on stations that hold s and t, a look shows the value that was written and echoed.
-  abbrev pub CodeEcho : Type 0
-  CodeEcho =
-      (st : Station) (s : List Place) → Shows st s → (m id : ℕ) (v : ParameterValue) (time : ℕ) → InRange v
-      → (w : Out) → Gives st (start m (command.WriteParameter id v) time) w → unrefused (replyIn w) ≡ true
-      → (st′ : Station) (t : List Place) → Shows st′ t → (f : CanFrame) (later : ℕ) → isRead f ≡ true → Carries (f .data) (sentIn (replyIn w) .data)
-      → (r : Out) → Gives st′ (frame f later) r → replyIn r ≡ ok
-      → (l : Looked) → Gives (next st′ r) (look (sourceOf f)) (looked l)
-      → (l .said ≡ checked.Passed) × (lookup id (readingsIn l) ≡ found.Held (record { value = v }))
-
-  -- After any run of the code from a new station, the readings that a look shows came in its calls.
-  abbrev pub CodeReadings : Type 0
-  CodeReadings =
-      (st : Station) → New st → (cs : List Asked) (os : List Out) → Ran Gives st cs os
-      → (m : ℕ) (l : Looked) → Gives (ending st os) (look m) (looked l) → l .said ≡ checked.Passed
-      → (e : Entry) → In e (readingsIn l) → HeldReading m (telling empty cs) e
-
-  -- What the contracts allow is the definition's value on any station, and, where it holds s, as document 01's station.
-  pub record CodeDemand2 : Type 0 where
-    pub calls : (st : Station) (a : Asked) (o : Out) → Gives st a o → (given st a ≡ o) × ((s : List Place) → Shows st s → Follows st o (stationCall s a))
-    pub echo : CodeEcho
-    pub readings : CodeReadings
 
 seen-is : (l : Looked) (k : Checked) (v : Seen) → l .said ≡ k → (shownBy k (l .seen)) .seen ≡ some v → (l .said ≡ checked.Passed) × (l .seen ≡ v)
 seen-is l checked.Passed v q e = (q, Option·some-injective (l .seen) v e)
@@ -112,34 +93,40 @@ module _ (Gives : Station → Asked → Out → Type 0) (is-given : (st : Statio
 
   code-echo : CodeEcho Gives
   unfolding reading
-  code-echo st s x m id v time range w g u st′ t y f later read carries r a p l b =
-      let said = one Gives is-given st s (start m (command.WriteParameter id v) time) w x g .0 in
-      let heard = one Gives is-given st′ t (frame f later) r y a in
+  code-echo id raw v range takes st t y f later read carries r a p l b =
+      let heard = one Gives is-given st t (frame f later) r y a in
       let passed = sym (heard .0) ∙ p in
       let k = taken-in t f later passed in
       let after = (stationCall t (frame f later)) .1 in
       let h = hears (k .by) f later .lone in
       let e : held after (sourceOf f) ≡ some h = ap (λ (q : List Place). held q (sourceOf f)) (k .station) ∙ put-some t (sourceOf f) (k .by) h (k .was) in
-      let q = look-shows (next st′ r) after (heard .1) (sourceOf f) l b h e in (
+      let q = look-shows (next st r) after (heard .1) (sourceOf f) l b h e in (
         q .0,
         ap (λ (es : List Entry). lookup id es) (q .1)
             ∙ sym (ap (reading id) e)
-            ∙ station-echo s m id v time range (ap unrefused (sym said) ∙ u) t f later read
-            (subst (λ (c : Reply). Carries (f .data) (sentIn c .data)) said carries)
-            passed,
+            ∙ station-echo id raw v range takes t f later read carries passed,
       )
 
-  code-readings : CodeReadings Gives
+  code-echo-of-call : CodeEchoOfCall Gives
+  code-echo-of-call st s x m id v time range w g u st′ t y f later read carries r a p l b =
+      let said = one Gives is-given st s (start m (command.WriteParameter id v) time) w x g .0 in
+      let k = wrote s m id v time (ap unrefused (sym said) ∙ u) in
+      code-echo id (rawOf v) v range (k .takes) st′ t y f later read
+      (subst (λ (d : List ℕ). Carries (f .data) d) (k .carries) (subst (λ (c : Reply). Carries (f .data) (sentIn c .data)) said carries))
+      r a p l b
+
+  code-readings : CodeReadings Gives New
   code-readings st n cs os g m l a p e i =
       let x = end-is Gives is-given st empty cs os (n .1) g in
       let h = look-held (ending st os) (after empty cs) x m l a p in
       let q = look-shows (ending st os) (after empty cs) x m l a (h .0) (h .1) in
       held-readings cs m (h .0) (h .1) e (subst (λ (es : List Entry). In e es) (q .1) i)
 
-pub code-demand2 : CodeDemand2 GivesByValue
+  pub demand2-of : CodeDemand2 Gives New
+  demand2-of = record { calls = λ st a o g. (is-given st a o g, λ s x. one Gives is-given st s a o x g); echo = code-echo; echo-of-call = code-echo-of-call; readings = code-readings }
+
+-- of the six by-value functions, with what their second clauses say
+pub code-demand2 : CodeDemand2 ByValue New
 code-demand2 =
-    record {
-      calls = λ st a o g. (gives-given st a o g, λ s x. gives-means st s a o x g);
-      echo = code-echo GivesByValue gives-given;
-      readings = code-readings GivesByValue gives-given;
-    }
+    let d = demand2-of ByValue gives-given in
+    record { calls = λ st a o g. (gives-given st a o g, λ s x. gives-means st s a o x g); echo = d .echo; echo-of-call = d .echo-of-call; readings = d .readings }

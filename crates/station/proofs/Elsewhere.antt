@@ -21,7 +21,7 @@ use Rattle.station.specs.declared.call.Call.{Call}
 use Rattle.station.specs.declared.call.Call.the-variants as call
 use Rattle.station.specs.Station.{sourceOf}
 use Rattle.station.specs.Stations.{freeMotor, placeOf, takenPlace, motorAt, withMotor, atPlace, tell, movedAt, notMoved, heardAt, removedAt, enteredIn, admittedIn, registerBy, registerIn, startIn, stepIn, frameIn, removeIn}
-use Rattle.station.proofs.Contracts.{Out, next, givenBy, given}
+use Rattle.station.specs.Code.{Out, next, givenBy, given, placeBy, placeFor}
 
 -- ---- a choice, and what is done at the place of an id
 
@@ -36,18 +36,6 @@ at-place P st id found none p q =
     either P (ltb (takenPlace (st .motors) id) 8) (found (takenPlace (st .motors) id)) none (p (takenPlace (st .motors) id) refl) q
 
 -- ---- the six calls
-
--- the place that a call is for: the first free one for a registration, else that of the id
-unfoldable pub placeBy : Station → Call → CanFrame → ℕ
-placeBy st (call.Register m h k w t) f = placeOf (st .motors) 0
-placeBy st (call.Start m c t) f = takenPlace (st .motors) m
-placeBy st (call.Step m t) f = takenPlace (st .motors) m
-placeBy st (call.Frame t) f = takenPlace (st .motors) (sourceOf f)
-placeBy st (call.Look m) f = takenPlace (st .motors) m
-placeBy st (call.Remove m t) f = takenPlace (st .motors) m
-
-abbrev pub placeFor : Station → Asked → ℕ
-placeFor st a = placeBy st (a .call) (a .frame)
 
 -- all places but k hold the same values
 abbrev pub SameBut : ℕ → Station → Station → Type 0

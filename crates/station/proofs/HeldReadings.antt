@@ -18,7 +18,7 @@ use Rattle.codec.specs.declared.model.ModelNamed.the-variants as named
 use Rattle.codec.specs.declared.registers.ParameterDataType.{ParameterDataType}
 use Rattle.codec.specs.declared.registers.ParameterInfo.the-variants as info
 use Rattle.codec.specs.Kinds.{parameterInfo}
-use Rattle.codec.specs.Values.{kindIn}
+use Rattle.codec.specs.Values.{kindIn, InRange}
 use Rattle.motor.specs.declared.engine.command.Command.{Command}
 use Rattle.motor.specs.declared.engine.operation.Effect.{Effect}
 use Rattle.motor.specs.declared.engine.operation.Effect.the-variants as effect
@@ -28,9 +28,10 @@ use Rattle.motor.specs.Calls.{sightOf, wanted, readingsBy, startSaid, stepSaid}
 use Rattle.motor.specs.Lone.{Lone, loneNew, loneStartBy, loneStepBy, hears, loneRemoval}
 use Rattle.motor.specs.Numbers.{firstOf}
 use Rattle.motor.specs.Readings.{entry, lookup, insert, remove, room}
-use Rattle.motor.specs.Receive.{acceptsFrame, isLate, isRead, readStatus, readId, readStored, frameSaid, readingsAfter}
-use Rattle.motor.proofs.Echo.{WrittenOut, heard-held, written-out}
-use Rattle.motor.proofs.ReceivingTheorems.{heldKind, kinds-held}
+use Rattle.motor.specs.Receive.{acceptsFrame, isOutOfTime, isRead, readStatus, readId, readStored, frameSaid, readingsAfter}
+use Rattle.motor.specs.Echo.{heldKind, WrittenOut}
+use Rattle.motor.proofs.Echo.{heard-held, written-out}
+use Rattle.motor.proofs.ReceivingTheorems.{kinds-held}
 use Rattle.station.specs.declared.call.Asked.{Asked}
 use Rattle.station.specs.declared.call.Call.{Call}
 use Rattle.station.specs.declared.call.Call.the-variants as call
@@ -144,7 +145,7 @@ zero-status : (h : Lone) (f : CanFrame) (now : ℕ) → hears h f now .said ≡ 
 unfolding hears frameSaid
 zero-status h f now e r =
     same-id (readStatus f) 0
-    (go (not (acceptsFrame (h .state .«motor_id») f)) (isLate (h .state .clock) now) (isRead f) (eqb (readStatus f) 0) (not (room (readId f) (h .readings))) r e)
+    (go (not (acceptsFrame (h .state .«motor_id») f)) (isOutOfTime (h .state .clock) now) (isRead f) (eqb (readStatus f) 0) (not (room (readId f) (h .readings))) r e)
   where
     go : (a b c d e : Bool) → c ≡ true
         → firstOf ((a, refusal.FrameNotAccepted) ∷ (b, refusal.TimeOutOfRange) ∷ (c && not d, refusal.ReadFailed (readId f) (readStatus f)) ∷ (c && e, refusal.ReadingsFull) ∷ []) ≡ checked.Passed
@@ -249,7 +250,7 @@ module _ (P : ℕ → Entry → Type 0) where
 
 -- a lone motor that takes the reply
 passes : (m : ℕ) (f : CanFrame) → acceptsFrame m f ≡ true → isRead f ≡ true → readStatus f ≡ 0 → hears (loneNew m 0 Rs00 0 0) f 0 .said ≡ checked.Passed
-unfolding hears frameSaid isLate
+unfolding hears frameSaid isOutOfTime
 passes m f a r z = rw (a, r, z)
 
 read-as : (m : ℕ) (told : List Told) (e : Entry) → Came m told e → HeldReading m told e

@@ -15,40 +15,14 @@ use Rattle.station.specs.Station.{Place, held, Distinct, sourceOf, stati
 use Rattle.station.specs.Stations.{freeMotor, motorAt, withMotor, Shows}
 use Rattle.station.specs.History.{mine}
 use Rattle.station.specs.Demands.{inert, number, numbersOf, raised, failed, countingNumbers, endingNumbers, movingNumbers}
-use Rattle.station.proofs.ChangedPlaces.{raisedAt, failedAt, place-counted, place-ended, place-freed}
-use Rattle.station.proofs.Contracts.{Out, replyIn, next, given, by-meaning, seen, shown, seen-is, Gives as ByValue, gives-given}
-use Rattle.station.proofs.Elsewhere.{placeFor, elsewhere}
+use Rattle.station.specs.Code.{Out, replyIn, next, given, seen, shown, placeFor, raisedAt, failedAt}
+use Rattle.station.specs.CodeDemands.{CodeKept, CodeDemand1}
+use Rattle.station.proofs.ChangedPlaces.{place-counted, place-ended, place-freed}
+use Rattle.station.proofs.Contracts.{by-meaning, seen-is, gives-given}
+use Rattle.station.proofs.Elsewhere.{elsewhere}
+use Rattle.station.proofs.Promises.{Gives as ByValue}
 use Rattle.station.proofs.Refused.{demand1}
 use Rattle.station.proofs.Unchanged.{given-still}
-
-module _ (Gives : Station → Asked → Out → Type 0) where
-  -- Demand 1 of a good station, st, which holds s: the replies, and what a look shows after a call.
-  pub record CodeKept (st : Station) (s : List Place) : Type 0 where
-    pub others : (a : Asked) (o : Out) → Gives st a o → (m : ℕ) → mine m a ≡ false → seen (next st o) m ≡ seen st m
-    pub freed : (m now : ℕ) (o : Out) → Gives st (remove m now) o → replyIn o ≡ ok → seen (next st o) m ≡ shown none
-    pub counted : (f : CanFrame) (now : ℕ) (o : Out) (h : Lone) → Gives st (frame f now) o → held s (sourceOf f) ≡ some h
-        → among (number (replyIn o)) countingNumbers ≡ true → seen (next st o) (sourceOf f) ≡ shows (loneLook (raised h now))
-    pub ended : (m now : ℕ) (o : Out) (h : Lone) → Gives st (step m now) o → held s m ≡ some h
-        → among (number (replyIn o)) endingNumbers ≡ true → seen (next st o) m ≡ shows (loneLook (failed h now))
-    pub numbers : (a : Asked) (o : Out) → Gives st a o → among (number (replyIn o)) (numbersOf (a .call)) ≡ true
-    pub start-numbers : (m : ℕ) (c : Command) (now : ℕ) (o : Out) → Gives st (start m c now) o
-        → among (number (replyIn o)) (21 ∷ movingNumbers) ≡ false
-    pub frame-numbers : (f : CanFrame) (now : ℕ) (o : Out) → Gives st (frame f now) o
-        → among (number (replyIn o)) (19 ∷ 21 ∷ endingNumbers) ≡ false
-
-  -- On any station: refused by a number other than 14 to 18 and 20, st comes back; all places but the call's own are the same; 14 and
-  -- 15 change of the motor there the clock and the response count, 16, 17, 18 and 20 the clock and the operation; a removed motor's
-  -- place is the free place. The rest is said of a good station with different ids.
-  pub record CodeDemand1 : Type 0 where
-    pub refused : (st : Station) (a : Asked) (o : Out) → Gives st a o → inert (replyIn o) ≡ true → next st o ≡ st
-    pub elsewhere : (st : Station) (a : Asked) (o : Out) → Gives st a o → (i : ℕ) → (i ≡ placeFor st a → ⊥) → motorAt (next st o) i ≡ motorAt st i
-    pub counted : (st : Station) (f : CanFrame) (now : ℕ) (o : Out) → Gives st (frame f now) o
-        → among (number (replyIn o)) countingNumbers ≡ true → next st o ≡ raisedAt st (placeFor st (frame f now)) now
-    pub ended : (st : Station) (m now : ℕ) (o : Out) → Gives st (step m now) o
-        → among (number (replyIn o)) endingNumbers ≡ true → next st o ≡ failedAt st (placeFor st (step m now)) now
-    pub freed : (st : Station) (m now : ℕ) (o : Out) → Gives st (remove m now) o → replyIn o ≡ ok
-        → next st o ≡ withMotor st (placeFor st (remove m now)) freeMotor
-    pub good : (st : Station) (s : List Place) → Shows st s → Distinct s → CodeKept st s
 
 -- what is so of the definition's value is so of what is returned
 module _ (Gives : Station → Asked → Out → Type 0) (is-given : (st : Station) (a : Asked) (o : Out) → Gives st a o → given st a ≡ o) where

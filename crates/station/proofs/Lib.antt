@@ -6,6 +6,7 @@ pub mod Standing
 pub mod Admitting
 pub mod Meanings
 pub mod Clauses
+pub mod Promises
 pub mod Contracts
 pub mod Promised
 pub mod Elsewhere
@@ -21,3 +22,5 @@ pub mod Definitions
 pub mod EchoAtStation
 pub mod HeldReadings
 pub mod Demand2
+pub mod StationDemands
+pub mod BoundsAtStation

@@ -22,7 +22,7 @@ use Rattle.motor.specs.declared.engine.operation.Phase.{Phase}
 use Rattle.motor.specs.engine.Run.{advanced}
 use Rattle.motor.specs.Calls.{registerNumbers, isIdle, stepSaid, sightOf, wanted}
 use Rattle.motor.specs.Lone.{Lone, loneStep, loneStepBy, hears}
-use Rattle.motor.specs.Receive.{acceptsFrame, isLate, readId, frameNumbers, frameSaid}
+use Rattle.motor.specs.Receive.{acceptsFrame, isOutOfTime, readId, frameNumbers, frameSaid}
 use Rattle.motor.specs.Readings.{lookup, room}
 use Rattle.motor.proofs.Ends.{Closed, advance-ends}
 use Rattle.motor.proofs.Stays.{running}
@@ -53,7 +53,7 @@ step-number h now = go (stepSaid (h .state .clock) p now) refl (of-first (λ n. 
     p = h .state .operation .phase
 
     tests : List (Bool × Refusal)
-    tests = (isLate (h .state .clock) now, refusal.TimeOutOfRange) ∷ (isIdle p, refusal.NothingRunning) ∷ []
+    tests = (isOutOfTime (h .state .clock) now, refusal.TimeOutOfRange) ∷ (isIdle p, refusal.NothingRunning) ∷ []
 
     go : (k : Checked) → stepSaid (h .state .clock) p now ≡ k → among (checkedNumber k) stepNumbers ≡ true
         → among (number ((movesTo (loneStepBy k h now)) .0)) stepNumbers ≡ true
@@ -61,7 +61,7 @@ step-number h now = go (stepSaid (h .state .clock) p now) refl (of-first (λ n. 
         let f = wanted p (λ id. lookup id (h .readings)) in
         let v = advanced (sightOf (h .state)) now (h .state .operation) f p in
         closed-number (v .said) (v .operation) (v .effect) (v .frame) (v .result)
-        (advance-ends (sightOf (h .state)) now (h .state .operation) f p (running (isLate (h .state .clock) now) (isIdle p) q))
+        (advance-ends (sightOf (h .state)) now (h .state .operation) f p (running (isOutOfTime (h .state .clock) now) (isIdle p) q))
     go (checked.Refused r) q e = e
 
 -- ---- the six calls
@@ -101,7 +101,7 @@ numbers-by s (call.Look m) f = route-number (0 ∷ 6 ∷ []) s m (held s m) _ _ 
 numbers-by s (call.Remove m now) f =
     route-number (0 ∷ 6 ∷ 7 ∷ 8 ∷ []) s m (held s m) _ _ refl
     (λ h. of-first (λ n. among n (0 ∷ 6 ∷ 7 ∷ 8 ∷ []))
-    ((isLate (h .state .clock) now, refusal.TimeOutOfRange) ∷ (not (isIdle (h .state .operation .phase)), refusal.OperationRunning) ∷ []) refl)
+    ((isOutOfTime (h .state .clock) now, refusal.TimeOutOfRange) ∷ (not (isIdle (h .state .operation .phase)), refusal.OperationRunning) ∷ []) refl)
 
 pub call-numbers : (s : List Place) (a : Asked) → among (number ((stationCall s a) .0)) (numbersOf (a .call)) ≡ true
 call-numbers s a = numbers-by s (a .call) (a .frame)

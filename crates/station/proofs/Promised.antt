@@ -14,79 +14,14 @@ use Rattle.station.specs.Calls.{Reply, ok}
 use Rattle.station.specs.Station.{Place, empty, held, Distinct, admission, stationCall}
 use Rattle.station.specs.Stations.{Shows}
 use Rattle.station.specs.History.{Told, ofM, after, removes, story, own, history, alone, holds}
-use Rattle.station.specs.Demands.{Given, registers, made, Run, at, since}
+use Rattle.station.specs.Demands.{Given, registers, Run, at, since}
+use Rattle.station.specs.Code.{Out, replyIn, next, given, Follows, seen, shown, reached, ending, answersOf}
+use Rattle.station.specs.CodeDemands.{Ran, CodeRun, code-since, code-at, CodeAsLone, CodeSame, CodeDemand3}
 use Rattle.station.proofs.Places.{distinct-free}
 use Rattle.station.proofs.Steps.{opens}
 use Rattle.station.proofs.TwoRuns.{as-lone, same, after-distinct}
-use Rattle.station.proofs.Contracts.{Out, replyIn, next, given, New, seen, shown, Follows, follows, seen-is, Gives as ByValue, gives-given}
-
--- ---- runs
-
--- The station after the first k of these returns, and after all.
-unfoldable pub reached : Station → List Out → ℕ → Station
-reached st os zero = st
-reached st [] (suc k) = st
-reached st (o ∷ os) (suc k) = reached (next st o) os k
-
-unfoldable pub ending : Station → List Out → Station
-ending st [] = st
-ending st (o ∷ os) = ending (next st o) os
-
--- The calls with their replies, to the removal of m or the end.
-unfoldable pub answersOf : ℕ → List Asked → List Out → List Told
-answersOf m [] os = []
-answersOf m (a ∷ cs) [] = []
-answersOf m (a ∷ cs) (o ∷ os) = (a, replyIn o) ∷ cond (removes m (a .call) (replyIn o)) [] (answersOf m cs os)
-
-module _ (Gives : Station → Asked → Out → Type 0) where
-  -- A run of the code: what the calls return, each on the station that the last one left.
-  abbrev pub Ran : Station → List Asked → List Out → Type 0
-  Ran st [] [] = Unit {0}
-  Ran st [] (o ∷ os) = ⊥
-  Ran st (a ∷ cs) [] = ⊥
-  Ran st (a ∷ cs) (o ∷ os) = Gives st a o × Ran (next st o) cs os
-
-  -- A run of the code from a new station, in which m is registered, unrefused.
-  pub record CodeRun (m : ℕ) (r : Given) : Type 0 where
-    pub begin : Station
-    pub new : New begin
-    pub before : List Asked
-    pub outs : List Out
-    pub ran : Ran begin before outs
-    pub out : Out
-    pub registered : Gives (ending begin outs) (registers m r) out
-    pub unrefused : replyIn out ≡ ok
-    pub later : List Asked
-    pub outs-later : List Out
-    pub ran-later : Ran (next (ending begin outs) out) later outs-later
-
-  module _ {m : ℕ} {r : Given} (x : CodeRun m r) where
-    unfoldable pub code-since : List Told
-    code-since = answersOf m (x .later) (x .outs-later)
-
-    unfoldable pub code-at : ℕ → Station
-    code-at k = reached (next (ending (x .begin) (x .outs)) (x .out)) (x .outs-later) k
-
-  -- What Demand 3 says, of the code.
-  module _ {m : ℕ} {r : Given} where
-    pub record CodeAsLone (x : CodeRun m r) : Type 0 where
-      pub answers : own m (code-since x) ≡ alone (some (made m r)) (ofM m (x .later))
-      pub held-at : (k : ℕ) → k ≤ length (code-since x)
-          → seen (code-at x k) m ≡ shown (holds (some (made m r)) (ofM m (take k (x .later))))
-
-    pub record CodeSame (x y : CodeRun m r) : Type 0 where
-      pub answers : own m (code-since x) ≡ own m (code-since y)
-      pub held-at : (j k : ℕ) → j ≤ length (code-since x) → k ≤ length (code-since y)
-          → length (ofM m (take j (x .later))) ≡ length (ofM m (take k (y .later)))
-          → seen (code-at x j) m ≡ seen (code-at y k) m
-
-  pub record CodeDemand3 : Type 0 where
-    pub two-runs : (m : ℕ) (r : Given) (x y : CodeRun m r) → history m (code-since x) ≡ history m (code-since y) → CodeSame x y
-    pub lone-motor : (m : ℕ) (r : Given) (x : CodeRun m r) → CodeAsLone x
-    pub places : (st : Station) → New st → (cs : List Asked) (os : List Out) → Ran st cs os → (s : List Place) × Shows (ending st os) s × Distinct s
-    pub taken-in : (st : Station) → New st → (cs : List Asked) (os : List Out) → Ran st cs os → (m : ℕ) (r : Given)
-        → (o : Out) → Gives (ending st os) (registers m r) o
-        → admission (after empty cs) m (r .host) (named.Known (r .model)) (r .wait) (r .time) ≡ checked.Passed → replyIn o ≡ ok
+use Rattle.station.proofs.Contracts.{follows, seen-is, gives-given}
+use Rattle.station.proofs.Promises.{New, Gives as ByValue}
 
 -- ---- whole lists of calls are document 01's
 
@@ -123,7 +58,7 @@ module _ (Gives : Station → Asked → Out → Type 0) (is-given : (st : Statio
   end-is st s (a ∷ cs) [] x g = absurd g
   end-is st s (a ∷ cs) (o ∷ os) x g = end-is (next st o) ((stationCall s a) .1) cs os (one st s a o x (g .0) .1) (g .1)
 
-  module _ {m : ℕ} {r : Given} (x : CodeRun Gives m r) where
+  module _ {m : ℕ} {r : Given} (x : CodeRun Gives New m r) where
     -- the station before the registration, and the registration
     there : List Place
     there = after empty (x .before)
@@ -143,18 +78,18 @@ module _ (Gives : Station → Asked → Out → Type 0) (is-given : (st : Statio
     unfolding at after run there
     begun = here .1
 
-    since-is : since run ≡ code-since Gives x
+    since-is : since run ≡ code-since Gives New x
     unfolding since code-since run
     since-is = story-is m _ (at run 0) (x .later) (x .outs-later) begun (x .ran-later)
 
-    run-at : (k : ℕ) → Shows (code-at Gives x k) (at run k)
+    run-at : (k : ℕ) → Shows (code-at Gives New x k) (at run k)
     unfolding at code-at run after
     run-at k = at-is _ (at run 0) (x .later) (x .outs-later) begun (x .ran-later) k
 
-    shown-at : (k : ℕ) → seen (code-at Gives x k) m ≡ shown (held (at run k) m)
-    shown-at k = seen-is (code-at Gives x k) (at run k) m (run-at k)
+    shown-at : (k : ℕ) → seen (code-at Gives New x k) m ≡ shown (held (at run k) m)
+    shown-at k = seen-is (code-at Gives New x k) (at run k) m (run-at k)
 
-    code-as-lone : CodeAsLone Gives x
+    code-as-lone : CodeAsLone Gives New x
     unfolding run
     code-as-lone =
         let l = as-lone run in
@@ -163,7 +98,7 @@ module _ (Gives : Station → Asked → Out → Type 0) (is-given : (st : Statio
           held-at = λ k b. shown-at k ∙ ap shown (l .held-at k (subst (λ (t : List Told). k ≤ length t) (sym since-is) b));
         }
 
-  code-same : {m : ℕ} {r : Given} (x y : CodeRun Gives m r) → history m (code-since Gives x) ≡ history m (code-since Gives y) → CodeSame Gives x y
+  code-same : {m : ℕ} {r : Given} (x y : CodeRun Gives New m r) → history m (code-since Gives New x) ≡ history m (code-since Gives New y) → CodeSame Gives New x y
   unfolding run
   code-same {m} x y e =
       let s = same (run x) (run y) (ap (history m) (since-is x) ∙ e ∙ sym (ap (history m) (since-is y))) in
@@ -188,9 +123,9 @@ module _ (Gives : Station → Asked → Out → Type 0) (is-given : (st : Statio
   unfolding empty
   good st n cs os g = (after empty cs, end-is st empty cs os (n .1) g, after-distinct empty cs (distinct-free 8))
 
-  pub demand3-of : CodeDemand3 Gives
+  pub demand3-of : CodeDemand3 Gives New
   demand3-of = record { two-runs = λ m r x y e. code-same x y e; lone-motor = λ m r x. code-as-lone x; places = good; taken-in = takes }
 
 -- of the six by-value functions
-pub code-demand3 : CodeDemand3 ByValue
+pub code-demand3 : CodeDemand3 ByValue New
 code-demand3 = demand3-of ByValue gives-given

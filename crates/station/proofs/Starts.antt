@@ -35,7 +35,7 @@ use Rattle.motor.specs.Commands.{Argument, noArgument, namedHost, newDeviceId, 
 use Rattle.motor.specs.Calls.{encodes, tested, isIdle, timeoutOf, arguedOf, orElse, startAdmitted, startSaid, sightOf}
 use Rattle.motor.specs.Lone.{Lone, loneStart, loneStartBy}
 use Rattle.motor.specs.Numbers.{firstOf}
-use Rattle.motor.specs.Receive.{isLate}
+use Rattle.motor.specs.Receive.{isOutOfTime}
 use Rattle.motor.proofs.Commands.{Opens, opens}
 use Rattle.motor.proofs.Stays.{argued-passed}
 use Rattle.station.specs.Calls.{says}
@@ -78,7 +78,7 @@ unfolding among
 written-number info.Unlisted v = refl
 written-number (info.Listed kind) v = go (eqb (kindNumber kind) (kindNumber (kindIn v)))
   where
-    go : (b : Bool) → among (checkedNumber (encodes (cond b (encoded.Raw (rawOf v)) (encoded.Refused refusal.KindDiffers)))) startNumbers ≡ true
+    go : (b : Bool) → among (checkedNumber (encodes (cond (not b) (encoded.Refused refusal.KindDiffers) (encoded.Raw (rawOf v))))) startNumbers ≡ true
     go true = refl
     go false = refl
 
@@ -120,7 +120,7 @@ start-number h c now = go (startSaid clock p c now) refl (after-tests (startAdmi
     p = h .state .operation .phase
 
     tests : List (Bool × Refusal)
-    tests = (isLate clock now, refusal.TimeOutOfRange) ∷ (not (isIdle p), refusal.OperationRunning) ∷ (ltb longestTimeout (timeoutOf c), refusal.TimeoutTooLong) ∷ []
+    tests = (isOutOfTime clock now, refusal.TimeOutOfRange) ∷ (not (isIdle p), refusal.OperationRunning) ∷ (ltb longestTimeout (timeoutOf c), refusal.TimeoutTooLong) ∷ []
 
     after-tests : (a : Checked) → among (checkedNumber a) startNumbers ≡ true → among (checkedNumber (orElse a (arguedOf c))) startNumbers ≡ true
     after-tests checked.Passed e = argued-number (commandRow c .argument)

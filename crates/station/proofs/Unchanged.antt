@@ -31,7 +31,7 @@ use Rattle.motor.specs.declared.registration.Admission.the-variants as admissio
 use Rattle.motor.specs.Calls.{sightOf, wanted, isIdle, startAdmitted, arguedOf, startSaid, stepSaid, registrationOf}
 use Rattle.motor.specs.Motors.{newMotor, startBy, startOf, stepBy, stepOf, removalOf}
 use Rattle.motor.specs.Readings.{findOf, putOf}
-use Rattle.motor.specs.Receive.{acceptsFrame, isLate, readId, readStored, frameSaid, stateAfter, readingsAfter, isFull, processFeedbackFrame}
+use Rattle.motor.specs.Receive.{acceptsFrame, isOutOfTime, readId, readStored, frameSaid, stateAfter, readingsAfter, isFull, processFeedbackFrame}
 use Rattle.motor.proofs.Ends.{Closed, begin-ends, advance-ends}
 use Rattle.motor.proofs.Stays.{moves, heardMoves, argued-passed, running}
 use Rattle.station.specs.declared.station.Station.{Station}
@@ -43,7 +43,7 @@ use Rattle.station.specs.Calls.{gives}
 use Rattle.station.specs.Station.{sourceOf}
 use Rattle.station.specs.Stations.{freeMotor, placeOf, motorAt, withMotor, atPlace, tell, movedAt, notMoved, heardAt, removedAt, enteredIn, admittedIn, registerBy, registerIn, startIn, stepIn, frameIn, removeIn}
 use Rattle.station.specs.Demands.{inert, countingNumbers, endingNumbers, movingNumbers}
-use Rattle.station.proofs.Contracts.{replyIn, next, givenBy, given}
+use Rattle.station.specs.Code.{replyIn, next, givenBy, given}
 use Rattle.station.proofs.Elsewhere.{either, at-place}
 use Rattle.station.proofs.Refused.{said-moves, told-moves}
 
@@ -77,7 +77,7 @@ step-kept y now = go (stepSaid (y .state .clock) (y .state .operation .phase) no
         let op = y .state .operation in
         let f = wanted (op .phase) (λ id. findOf (y .readings) id) in
         let v = advanced (sightOf (y .state)) now op f (op .phase) in
-        let h = advance-ends (sightOf (y .state)) now op f (op .phase) (running (isLate (y .state .clock) now) (isIdle (op .phase)) e) in
+        let h = advance-ends (sightOf (y .state)) now op f (op .phase) (running (isOutOfTime (y .state .clock) now) (isIdle (op .phase)) e) in
         absurd (true≢false (sym (ends-moves (v .said) (v .operation) (v .effect) h) ∙ q))
     go (checked.Refused r) e q = refl
 

@@ -1,10 +1,17 @@
 -- What the functions of codec, engine and motor promise, against document 01's definitions: `Reads.Post` of a function is its contract,
--- as the check has read it. Definitions only.
+-- as the check has read it, and `Reads.requires` what it asks. Definitions only.
+use Prim.Native.Nat.{ℕ}
 use mathlib.Core.Path.{_≡_}
 use mathlib.Core.List.{List, []}
-use denote.Ref.{now}
+use base.Logic.{ent, emp}
+use borrow.Fn.World.{World, Pr}
+use contract.Lifetimes.{Lfts}
+use contract.Monad.{fact}
+use denote.Ref.{RefT, now}
 use mir.Syntax.{w8}
 use mir.Val.{ofZ, toZ}
+use Rattle.codec.specs.declared.bus.CanFrame.{CanFrame}
+use Rattle.codec.specs.declared.error.Checked.{Checked}
 use Rattle.codec.specs.Faults.{decodeFaultReport}
 use Rattle.codec.specs.Ids.{buildExtId, extIdParts}
 use Rattle.codec.specs.Kinds.{parameterInfo}
@@ -12,6 +19,8 @@ use Rattle.codec.specs.Models.{modelNamed, limitsOf, modelLimits}
 use Rattle.codec.specs.Modes.{controlModeNumber, controlModeFromRaw}
 use Rattle.codec.specs.Motion.{motionRaw, gainRaw, encodeMitCommand}
 use Rattle.codec.specs.Refusals.{numberOf}
+use Rattle.codec.specs.Names.{protocolName}
+use Rattle.codec.specs.ParameterNames.{parameterName}
 use Rattle.codec.specs.Replies.{validateProtocolCmd, encodeSetProtocol, encodeVersionRequest, isVersionReply, decodeVersionReply, pingReply, decodePingReply}
 use Rattle.codec.specs.Status.{statusValue, temperatureOf, decodeStatusFrame}
 use Rattle.codec.specs.Values.{encodeParameterValue, encodeParameterRead, encodeParameterWrite, decodeReadParameterValue}
@@ -32,7 +41,9 @@ use Rattle.codec.proofs.protocol.encode_parameter_write.Reads as encode-paramet
 use Rattle.codec.proofs.protocol.encode_set_protocol.Reads as encode-set-protocol
 use Rattle.codec.proofs.protocol.ext_id_parts.Reads as ext-id-parts
 use Rattle.codec.proofs.protocol.validate_protocol_cmd.Reads as validate-protocol-cmd
+use Rattle.codec.proofs.protocol.protocol_name.Reads as protocol-name
 use Rattle.codec.proofs.registers.parameter_info.Reads as parameter-info
+use Rattle.codec.proofs.registers.parameter_name.Reads as parameter-name
 use Rattle.codec.proofs.registers.ControlMode.from_raw.Reads as from-raw
 use Rattle.codec.proofs.registers.ControlMode.number.Reads as mode-number
 use Rattle.codec.proofs.replies.decode_ping_reply.Reads as decode-ping-reply
@@ -55,6 +66,7 @@ use Rattle.motor.proofs.engine.moves.no_operation.Reads as no-operation-reads
 use Rattle.motor.proofs.engine.requests.no_frame.Reads as no-frame-reads
 use Rattle.motor.proofs.engine.run.begin_at.Reads as begin-at
 use Rattle.motor.proofs.engine.run.advance_at.Reads as advance-at
+use Rattle.motor.specs.declared.motor.Motor.{Motor}
 use Rattle.motor.specs.declared.readings.Entry.{Entry}
 use Rattle.motor.specs.Calls.{registrationOf}
 use Rattle.motor.specs.Edits.{hearRead}
@@ -79,6 +91,7 @@ use Rattle.motor.proofs.receive.arrival_of.Reads as arrival-of
 use Rattle.motor.proofs.receive.process_feedback_frame.Reads as process-feedback-frame
 use Rattle.motor.proofs.registration.registration.Reads as registration-reads
 use Rattle.motor.proofs.registration.registration_of.Reads as registration-of
+use Rattle.motor.proofs.thin.process_feedback_frame_in_place as thin
 
 -- ---- a contract P, of lifetimes k and arguments x: every result r that it allows has Q x r; or is g x
 
@@ -87,6 +100,10 @@ Means {K} {X} {R} P Q = (k : K) (x : X) (r : R) → P k x r x → Q x r
 
 abbrev pub Gives : {K X R : Type 0} → (K → X → R → X → Type 0) → (X → R) → Type 0
 Gives P g = Means P (λ x r. r ≡ g x)
+
+-- what is asked of a caller, P, comes from nothing: whatever the lifetimes k and the arguments x, in every model w of the logic
+abbrev pub AsksNothing : {K X G : Type 0} → (K → X → G → (w : World) → Pr w) → Type 2
+AsksNothing {K} {X} {G} P = (k : K) (x : X) (g : G) (w : World) → ent (w .𝓤) (emp (w .𝓤)) (P k x g w)
 
 -- g of no argument, of the one, the two, .. that x has
 
@@ -119,6 +136,8 @@ pub record Ids : Type 0 where
 
 pub record Parameters : Type 0 where
   pub parameter : Gives parameter-info.Post (of1 parameterInfo)
+  pub parameter-named : Gives parameter-name.Post (of1 parameterName)
+  pub protocol-named : Gives protocol-name.Post (of1 protocolName)
   pub encode-read : Gives encode-parameter-read.Post (of1 encodeParameterRead)
   pub encode-write : Gives encode-parameter-write.Post (of2 encodeParameterWrite)
   pub encode-value : Gives encode-parameter-value.Post (of2 encodeParameterValue)
@@ -193,3 +212,80 @@ pub record Operations : Type 0 where
   pub look : Gives look-reads.Post (of1 lookOf)
   pub look-as-lone : Means look-reads.Post (of1 (λ m r. (l : List Entry) → Holds (m .readings) l → r ≡ loneLook (loneOf m l)))
   pub removal : Gives removal-reads.Post (of2 removalOf)
+
+-- ---- nothing is asked of a caller
+
+pub record CodecAsks : Type 2 where
+  pub build : AsksNothing build-ext-id.requires
+  pub parts : AsksNothing ext-id-parts.requires
+  pub parameter : AsksNothing parameter-info.requires
+  pub parameter-named : AsksNothing parameter-name.requires
+  pub protocol-named : AsksNothing protocol-name.requires
+  pub encode-read : AsksNothing encode-parameter-read.requires
+  pub encode-write : AsksNothing encode-parameter-write.requires
+  pub encode-value : AsksNothing encode-parameter-value.requires
+  pub decode-value : AsksNothing decode-read-parameter-value.requires
+  pub mode-from : AsksNothing from-raw.requires
+  pub mode-to : AsksNothing mode-number.requires
+  pub byte : AsksNothing byte-of.requires
+  pub signed : AsksNothing signed-of.requires
+  pub named : AsksNothing model-named.requires
+  pub limits-named : AsksNothing model-limits.requires
+  pub limits : AsksNothing limits-of.requires
+  pub motion : AsksNothing motion-raw.requires
+  pub gain : AsksNothing gain-raw.requires
+  pub command : AsksNothing encode-mit-command.requires
+  pub float : AsksNothing value-reads.requires
+  pub word : AsksNothing word-of.requires
+  pub value : AsksNothing status-value.requires
+  pub degrees : AsksNothing temperature.requires
+  pub status : AsksNothing decode-status-frame.requires
+  pub fault : AsksNothing decode-fault-report.requires
+  pub ping : AsksNothing decode-ping-reply.requires
+  pub ping-parts : AsksNothing ping-reply.requires
+  pub is-version : AsksNothing is-version-reply.requires
+  pub version : AsksNothing decode-version-reply.requires
+  pub ask-version : AsksNothing encode-version-request.requires
+  pub numbers : AsksNothing number.requires
+  pub protocol : AsksNothing validate-protocol-cmd.requires
+  pub set-protocol : AsksNothing encode-set-protocol.requires
+
+-- the thin receive call has no `Reads`: its clauses themselves
+abbrev thinAsks : Lfts 1 → RefT Motor × (CanFrame × (ℕ × Unit {0})) → Unit {0} → (w : World) → Pr w
+thinAsks k x g w = thin.clauses (w .𝓤) (w .H) (w .𝓖 .A) (w .𝓜 .mem) (w .𝓡 .run) k x .requires g
+
+pub record MotorAsks : Type 2 where
+  pub none : AsksNothing empty-reads.requires
+  pub find : AsksNothing find-reads.requires
+  pub put : AsksNothing put-reads.requires
+  pub drop : AsksNothing drop-id.requires
+  pub listed : AsksNothing listed-reads.requires
+  pub accepted : AsksNothing accepts-frame.requires
+  pub arrival : AsksNothing arrival-of.requires
+  pub heard : AsksNothing process-feedback-frame.requires
+  pub quiet : AsksNothing hear-state.requires
+  pub edits : AsksNothing hear-read.requires
+  pub candidates : AsksNothing host-candidates.requires
+  pub no-frame : AsksNothing no-frame-reads.requires
+  pub no-operation : AsksNothing no-operation-reads.requires
+  pub begins : AsksNothing begin-at.requires
+  pub advances : AsksNothing advance-at.requires
+  pub admission-of : AsksNothing registration-of.requires
+  pub admission : AsksNothing registration-reads.requires
+  pub new : AsksNothing new-reads.requires
+  pub start : AsksNothing start-reads.requires
+  pub step : AsksNothing step-reads.requires
+  pub look : AsksNothing look-reads.requires
+  pub removal : AsksNothing removal-reads.requires
+  pub thin-heard : AsksNothing thinAsks
+
+-- ---- the thin receive call
+
+-- what is said, and the motor at exit, are those of the by-value call
+abbrev pub ThinHeard : Motor → CanFrame → ℕ → Checked → Motor → Type 0
+ThinHeard m f time r end = (r ≡ processFeedbackFrame m f time .said) × (end ≡ processFeedbackFrame m f time .motor)
+
+pub record ThinRules : Type 2 where
+  pub heard : (w : World) (k : Lfts 1) (m end : RefT Motor) (f : CanFrame) (time : ℕ) (r : Checked)
+      → thin.clauses (w .𝓤) (w .H) (w .𝓖 .A) (w .𝓜 .mem) (w .𝓡 .run) k (m, (f, (time, tt))) .ensures tt r (end, (f, (time, tt)))
+      ≡ fact (w .𝓤) (ThinHeard (now m) f time r (now end))

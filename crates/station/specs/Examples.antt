@@ -35,7 +35,7 @@ use Rattle.motor.specs.declared.feedback.Latest.{Latest}
 use Rattle.motor.specs.declared.feedback.Latest.the-variants as latest
 use Rattle.motor.specs.Lone.{Lone, hears}
 use Rattle.motor.specs.Readings.{run}
-use Rattle.motor.specs.Receive.{acceptsFrame, isLate, countedAt, pingAfter, feedbackIn, nextSequence, feedbackAfter, faultAfter, toldBy, isRead, readStatus, readId, readStored, frameSaid, stateAfter, readingsAfter}
+use Rattle.motor.specs.Receive.{acceptsFrame, isOutOfTime, countedAt, pingAfter, feedbackIn, nextSequence, feedbackAfter, faultAfter, toldBy, isRead, readStatus, readId, readStored, frameSaid, stateAfter, readingsAfter}
 use Rattle.motor.specs.Runs.{word, bytes, sending, received}
 use Rattle.station.specs.declared.call.Answer.{Answer}
 use Rattle.station.specs.declared.call.Answer.the-variants as answer
@@ -220,7 +220,7 @@ abbrev pub Examples : Type 0
 Examples = codec.Holds codec.examples × Holds marked × Holds numbers × Holds flaps
 
 pub examples-hold : Examples
-unfolding answers after one reading flags flagsIn refusedIn refusedBy failedBy run sameBytes namedAmong stationBy empty held isSome full add put place movesTo hearsTo leaves loneBy route admission enter admit sourceOf refused hears frameSaid stateAfter readingsAfter acceptsFrame isLate countedAt toldBy pingAfter feedbackIn nextSequence feedbackAfter faultAfter isRead readStatus readId readStored among listedIds int8Ids uint8Ids uint16Ids uint32Ids kindOf parameterInfo controlModeFromRaw isMode hostCandidates
+unfolding answers after one reading flags flagsIn refusedIn refusedBy failedBy run sameBytes namedAmong stationBy empty held isSome full add put place movesTo hearsTo leaves loneBy route admission enter admit sourceOf refused hears frameSaid stateAfter readingsAfter acceptsFrame isOutOfTime countedAt toldBy pingAfter feedbackIn nextSequence feedbackAfter faultAfter isRead readStatus readId readStored among listedIds int8Ids uint8Ids uint16Ids uint32Ids kindOf parameterInfo controlModeFromRaw isMode hostCandidates
 examples-hold = (
   codec.examples-hold,
   (refl, (refl, (refl, (refl, (refl, (refl, (refl, tt))))))),

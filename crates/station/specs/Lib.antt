@@ -8,3 +8,6 @@ pub mod Demands
 pub mod Examples
 pub mod Definitions
 pub mod Demand2
+pub mod Code
+pub mod CodeDemands
+pub mod StationBounds

@@ -10,12 +10,11 @@ use Rattle.codec.specs.declared.bus.CanFrame.{CanFrame}
 use Rattle.codec.specs.declared.error.Checked.{Checked}
 use Rattle.codec.specs.declared.error.Checked.the-variants as checked
 use Rattle.codec.specs.declared.error.Refusal.{Refusal}
-use Rattle.codec.specs.declared.error.Refusal.the-variants as refusal
 use Rattle.codec.specs.declared.model.ModelNamed.{ModelNamed}
 use Rattle.codec.specs.declared.model.ModelNamed.the-variants as named
 use Rattle.motor.specs.Calls.{registerNumbers}
 use Rattle.motor.specs.Lone.{Lone, LoneAnswered, LoneHeard, loneNew, loneAgain, loneStart, loneStep, hears, loneLook, loneRemoval}
-use Rattle.motor.specs.Numbers.{firstOf}
+use Rattle.motor.specs.Numbers.{plain, numbered, firstOf}
 use Rattle.motor.specs.Receive.{frameExtra, acceptsFrame}
 use Rattle.station.specs.declared.call.Asked.{Asked}
 use Rattle.station.specs.declared.call.Call.{Call}
@@ -105,12 +104,12 @@ route s m (some h) refusal visit = ((visit h) .0, put s m ((visit h) .1))
 -- Register: 1, 2, 3, 9, 7, 5, 4
 unfoldable pub admission : List Place → ℕ → ℕ → ModelNamed → ℕ → ℕ → Checked
 admission s m host model wait time =
-    firstOf (registerNumbers m host model wait time ++ ((isSome (held s m), refusal.IdRegistered) ∷ (full s, refusal.StationFull) ∷ []))
+    firstOf (registerNumbers m host model wait time ++ numbered [] ((isSome (held s m), 5) ∷ (full s, 4) ∷ []))
 
 -- passed, the model is known: 3 comes before
 unfoldable pub enter : List Place → ℕ → ℕ → ModelNamed → ℕ → ℕ → Reply × List Place
 enter s m host (named.Known model) wait time = (ok, add s m (loneNew m host model wait time))
-enter s m host named.Unknown wait time = (no refusal.UnknownModel, s)
+enter s m host named.Unknown wait time = (no (plain 3), s)
 
 unfoldable pub admit : Checked → List Place → ℕ → ℕ → ModelNamed → ℕ → ℕ → Reply × List Place
 admit checked.Passed s m host model wait time = enter s m host model wait time
@@ -122,18 +121,18 @@ sourceOf f = frameExtra f % 256
 
 -- to the motor of an id: 6, then the motor's numbers
 abbrev pub toMotor : List Place → ℕ → Call → CanFrame → Reply × List Place
-toMotor s m c f = route s m (held s m) (refuses c refusal.IdNotRegistered) (λ h. loneBy h c f)
+toMotor s m c f = route s m (held s m) (refuses c (plain 6)) (λ h. loneBy h c f)
 
 -- to the motor that a frame comes from: 13, then the motor's numbers
 abbrev pub toSource : List Place → CanFrame → ℕ → Reply × List Place
 toSource s f now =
-    route s (sourceOf f) (held s (sourceOf f)) (refuses (call.Frame now) refusal.FrameNotAccepted) (λ h. loneBy h (call.Frame now) f)
+    route s (sourceOf f) (held s (sourceOf f)) (refuses (call.Frame now) (plain 13)) (λ h. loneBy h (call.Frame now) f)
 
 unfoldable pub stationBy : List Place → Call → CanFrame → Reply × List Place
 stationBy s (call.Register m host model wait time) f = admit (admission s m host model wait time) s m host model wait time
 stationBy s (call.Start m c now) f = toMotor s m (call.Start m c now) f
 stationBy s (call.Step m now) f = toMotor s m (call.Step m now) f
-stationBy s (call.Frame now) f = cond (acceptsFrame (sourceOf f) f) (toSource s f now) (no refusal.FrameNotAccepted, s)
+stationBy s (call.Frame now) f = cond (acceptsFrame (sourceOf f) f) (toSource s f now) (no (plain 13), s)
 stationBy s (call.Look m) f = toMotor s m (call.Look m) f
 stationBy s (call.Remove m now) f = toMotor s m (call.Remove m now) f
 

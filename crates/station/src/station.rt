@@ -102,10 +102,11 @@ pub fn register(st: Station, id: u16, host: u16, name: &[u8], wait: u64, time: u
     ensures is { λ r. ⌜ r ≡ registerIn st id host (modelNamed (now (name .entry))) wait time ⌝ }
     ensures means { λ r. ⌜ ((s : List Place) → Shows st s → LeavesAs r (stationCall s (asked.register id host (modelNamed (now (name .entry))) wait time))) ⌝ }
 {
-    match registration(id, host, name, wait, time) {
-        Admission::Admitted(model) => return admitted(st, id, host, model, wait, time),
+    let model = match registration(id, host, name, wait, time) {
+        Admission::Admitted(model) => model,
         Admission::Refused(refusal) => return tell(st, Checked::Refused(refusal)),
-    }
+    };
+    admitted(st, id, host, model, wait, time)
 }
 
 // ---- start: 6, then the motor's. Step: 6, then the motor's
@@ -220,10 +221,10 @@ fn removed_at(st: Station, i: usize, said: Checked) -> After
     requires { ⌜ i < mostMotors ⌝ }
     ensures { λ r. ⌜ r ≡ removedAt said st i ⌝ }
 {
-    match said {
-        Checked::Passed => return tell(with_motor(st, i, free_motor()), Checked::Passed),
-        Checked::Refused(refusal) => return tell(st, Checked::Refused(refusal)),
+    if let Checked::Refused(refusal) = said {
+        return tell(st, Checked::Refused(refusal));
     }
+    tell(with_motor(st, i, free_motor()), Checked::Passed)
 }
 
 // A motor is removed.

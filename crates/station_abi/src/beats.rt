@@ -11,7 +11,11 @@ use station::call::Call;
 use station::call::Replied;
 use station::lent::call::call;
 use station::limits::MOTORS;
-ghost use Prim.Native.Nat.{_+_, _≤_, _<_};
+ghost use Prim.Native.Nat.{_+_, _^_, _<_};
+ghost use mathlib.Core.Path.{_≡_};
+ghost use Rattle.station.specs.lent.Lent.{stationOf};
+ghost use Rattle.station_abi.specs.Beats.{askedAt, nextBeat, countedBy};
+ghost use Rattle.station_abi.specs.Frames.{framesInPlace};
 
 // How many frames are left, how many were not refused, and what the next one is.
 pub struct Beat {
@@ -24,16 +28,18 @@ pub struct Beat {
 }
 
 // The call that hands in the next frame.
-fn asked_at(b: Beat) -> Asked {
+fn asked_at(b: Beat) -> Asked
+    ensures { λ r. ⌜ r ≡ askedAt b ⌝ }
+{
     Asked {
         call: Call::Frame { time: 0 },
         frame: next_frame(b.kind, b.id, b.parameter),
     }
 }
 
-// One frame less is left.
+// One frame less is left. A count that no longer fits ends it; it never comes to that.
 fn next_beat(b: Beat, replied: Replied) -> Beat
-    ensures { λ r. ⌜ (0 < b .left → r .left < b .left) × (r .passed + r .left ≤ b .passed + b .left) ⌝ }
+    ensures { λ r. ⌜ (0 < b .left → r .left < b .left) × (0 < b .left → b .passed + b .left < 2 ^ 64 → r ≡ nextBeat b replied) ⌝ }
 {
     if b.left == 0 {
         return b;
@@ -53,7 +59,7 @@ fn next_beat(b: Beat, replied: Replied) -> Beat
 
 // Frames until none is left.
 fn beats(motors: [Motor; MOTORS], b: Beat) -> Beat
-    ensures { λ r. ⌜ r .passed + r .left ≤ b .passed + b .left ⌝ }
+    ensures { λ r. ⌜ (b .passed + b .left < 2 ^ 64 → r .passed ≡ countedBy (stationOf motors) b) ⌝ }
 {
     let mut motors = motors;
     let mut b = b;
@@ -68,7 +74,7 @@ fn beats(motors: [Motor; MOTORS], b: Beat) -> Beat
 // As frames_by_value, with the motors lent to each call.
 #[no_mangle]
 pub extern "C" fn frames_in_place(motors: u64, held: u64, kind: u64, times: u64) -> u64
-    ensures { λ r. ⌜ r ≤ times ⌝ }
+    ensures { λ r. ⌜ r ≡ framesInPlace motors held kind times ⌝ }
 {
     let motors = motors_of(motors);
     let parameter = last_parameter(held);

@@ -8,11 +8,12 @@ use codec::error::Checked;
 use station::call::Answer;
 use station::call::Replied;
 use station::station::frame;
-ghost use Prim.Native.Nat.{_≤_};
+ghost use mathlib.Core.Path.{_≡_};
+ghost use Rattle.station_abi.specs.Frames.{motorsOf, nextId, nextFrame, isPassed, passedOf, framesByValue};
 
 // How many motors there are: at most 8.
 pub(crate) fn motors_of(motors: u64) -> u16
-    ensures { λ r. ⌜ r ≤ 8 ⌝ }
+    ensures { λ r. ⌜ r ≡ motorsOf motors ⌝ }
 {
     if 8 < motors {
         return 8;
@@ -21,7 +22,9 @@ pub(crate) fn motors_of(motors: u64) -> u16
 }
 
 // The motor after this one, round robin.
-pub(crate) fn next_id(id: u16, motors: u16) -> u16 {
+pub(crate) fn next_id(id: u16, motors: u16) -> u16
+    ensures { λ r. ⌜ r ≡ nextId id motors ⌝ }
+{
     if id < motors {
         return id + 1;
     }
@@ -29,7 +32,9 @@ pub(crate) fn next_id(id: u16, motors: u16) -> u16 {
 }
 
 // Kind 0 is a status frame, any other a read reply.
-pub(crate) fn next_frame(kind: u64, id: u16, parameter: u16) -> CanFrame {
+pub(crate) fn next_frame(kind: u64, id: u16, parameter: u16) -> CanFrame
+    ensures { λ r. ⌜ r ≡ nextFrame kind id parameter ⌝ }
+{
     if kind == 0 {
         return status_frame(id);
     }
@@ -38,7 +43,7 @@ pub(crate) fn next_frame(kind: u64, id: u16, parameter: u16) -> CanFrame {
 
 // 1 where nothing was refused.
 fn is_passed(said: Checked) -> u64
-    ensures { λ r. ⌜ r ≤ 1 ⌝ }
+    ensures { λ r. ⌜ r ≡ isPassed said ⌝ }
 {
     match said {
         Checked::Passed => 1,
@@ -48,12 +53,13 @@ fn is_passed(said: Checked) -> u64
 
 // 1 where a frame was not refused.
 pub(crate) fn passed(replied: Replied) -> u64
-    ensures { λ r. ⌜ r ≤ 1 ⌝ }
+    ensures { λ r. ⌜ r ≡ passedOf replied ⌝ }
 {
     let answer = replied.answer;
     match answer {
         Answer::Told(said) => is_passed(said),
-        _ => 0,
+        Answer::Moved(_) => 0,
+        Answer::Looked(_) => 0,
     }
 }
 
@@ -61,7 +67,7 @@ pub(crate) fn passed(replied: Replied) -> u64
 // readings each. Read replies are for the largest parameter held, or where none is held for the first.
 #[no_mangle]
 pub extern "C" fn frames_by_value(motors: u64, held: u64, kind: u64, times: u64) -> u64
-    ensures { λ r. ⌜ r ≤ times ⌝ }
+    ensures { λ r. ⌜ r ≡ framesByValue motors held kind times ⌝ }
 {
     let motors = motors_of(motors);
     let parameter = last_parameter(held);

@@ -7,20 +7,21 @@ use station::station::Station;
 use station::station::frame;
 use station::station::new;
 use station::station::register;
-ghost use Prim.Native.Nat.{_≤_};
+ghost use mathlib.Core.Path.{_≡_};
+ghost use Rattle.station_abi.specs.Loaded.{frameFrom, statusFrame, readReply, lastParameter, registeredOf, readByAll, loadedTo};
 
 const HOST: u8 = 0xFD;
 
 // The first parameter held; the others follow it.
 const FIRST: u16 = 0x3000;
 
-// The most readings that a motor holds.
-
 // A frame of motor `id` to the host.
-fn frame_from(id: u16, comm_type: u32, data: [u8; 8]) -> CanFrame {
+fn frame_from(id: u16, comm_type: u32, bytes: [u8; 8]) -> CanFrame
+    ensures { λ r. ⌜ r ≡ frameFrom id «comm_type» bytes ⌝ }
+{
     CanFrame {
         arbitration_id: build_ext_id(comm_type, id, HOST),
-        data,
+        data: bytes,
         dlc: 8,
         is_extended: true,
         is_rx: true,
@@ -28,22 +29,26 @@ fn frame_from(id: u16, comm_type: u32, data: [u8; 8]) -> CanFrame {
 }
 
 // A status frame: at rest, 25 degrees.
-pub(crate) fn status_frame(id: u16) -> CanFrame {
-    let data = [0x7F, 0xFF, 0x7F, 0xFF, 0x7F, 0xFF, 0, 0xFA];
-    frame_from(id, CommunicationType::OPERATION_STATUS, data)
+pub(crate) fn status_frame(id: u16) -> CanFrame
+    ensures { λ r. ⌜ r ≡ statusFrame id ⌝ }
+{
+    let bytes = [0x7F, 0xFF, 0x7F, 0xFF, 0x7F, 0xFF, 0, 0xFA];
+    frame_from(id, CommunicationType::OPERATION_STATUS, bytes)
 }
 
 // A read reply: the value is 0.
-pub(crate) fn read_reply(id: u16, parameter: u16) -> CanFrame {
+pub(crate) fn read_reply(id: u16, parameter: u16) -> CanFrame
+    ensures { λ r. ⌜ r ≡ readReply id parameter ⌝ }
+{
     let low = (parameter % 256) as u8;
     let high = (parameter / 256) as u8;
-    let data = [low, high, 0, 0, 0, 0, 0, 0];
-    frame_from(id, CommunicationType::READ_PARAMETER, data)
+    let bytes = [low, high, 0, 0, 0, 0, 0, 0];
+    frame_from(id, CommunicationType::READ_PARAMETER, bytes)
 }
 
 // The largest parameter held where so many are, and the first where none is.
 pub(crate) fn last_parameter(held: u64) -> u16
-    ensures { λ r. ⌜ r ≤ 12383 ⌝ }
+    ensures { λ r. ⌜ r ≡ lastParameter held ⌝ }
 {
     if held == 0 {
         return FIRST;
@@ -55,7 +60,9 @@ pub(crate) fn last_parameter(held: u64) -> u16
 }
 
 // A station with the motors 1, 2, ..
-fn registered(motors: u16) -> Station {
+fn registered(motors: u16) -> Station
+    ensures { λ r. ⌜ r ≡ registeredOf motors ⌝ }
+{
     let mut st = new();
     let mut count: u16 = 0;
     while count < motors {
@@ -67,7 +74,9 @@ fn registered(motors: u16) -> Station {
 }
 
 // The station after a reply of every motor for one parameter.
-fn read_by_all(st: Station, motors: u16, parameter: u16) -> Station {
+fn read_by_all(st: Station, motors: u16, parameter: u16) -> Station
+    ensures { λ r. ⌜ r ≡ readByAll st motors parameter ⌝ }
+{
     let mut after = st;
     let mut count: u16 = 0;
     while count < motors {
@@ -79,7 +88,9 @@ fn read_by_all(st: Station, motors: u16, parameter: u16) -> Station {
 }
 
 // A station whose motors hold so many readings each.
-pub(crate) fn loaded(motors: u16, held: u64) -> Station {
+pub(crate) fn loaded(motors: u16, held: u64) -> Station
+    ensures { λ r. ⌜ r ≡ loadedTo motors held ⌝ }
+{
     let mut st = registered(motors);
     let mut count: u64 = 0;
     while count < held {

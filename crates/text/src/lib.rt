@@ -15,6 +15,7 @@ pub use put::put_decimal;
 pub use put::put_hex;
 pub use put::put_places;
 pub use words::part;
+pub use words::past;
 pub use words::same_bytes;
 pub use words::which;
 pub use words::word;

@@ -1,5 +1,5 @@
 // Text put into a lent buffer at a place. Each function answers the next place. None asks for
-// room: what doesn't fit is dropped, and what is put is promised where there is room for it.
+// room: what doesn't fit is dropped. The whole buffer is promised, with room and without.
 ghost use mathlib.Core.Path.{_≡_};
 ghost use mathlib.Core.List.{[], _∷_};
 ghost use Prim.Native.Nat.{_≤_, _<_};

@@ -42,7 +42,7 @@ pub fn part(s: &[u8], b: u8, k: usize) -> &[u8]
 }
 
 // What follows place k of s; nothing where s ends before.
-fn past(s: &[u8], k: usize) -> &[u8]
+pub fn past(s: &[u8], k: usize) -> &[u8]
     ensures { λ r. ⌜ now r ≡ drop (k + 1) (now (s .entry)) ⌝ }
 {
     if k < s.len() {

@@ -13,12 +13,15 @@ use Rattle.codec.specs.Kinds as kinds
 use Rattle.codec.specs.Models as models
 use Rattle.codec.specs.Modes.{controlModeFromRaw}
 use Rattle.codec.specs.Motion as motion
+use Rattle.codec.specs.Names as names
+use Rattle.codec.specs.ParameterNames as parameters
 use Rattle.codec.specs.Replies as replies
 use Rattle.codec.specs.Status as status
 use Rattle.codec.specs.Values as values
 use Rattle.codec.specs.declared.motion.MitCommand.{MitCommand}
+use Rattle.codec.specs.declared.names.Name.{Name}
 use Rattle.codec.specs.declared.status.StatusFrame.{StatusFrame}
-use Rattle.codec_abi.specs.Packing.{payloadOf, packed, refusalIn, flag}
+use Rattle.codec_abi.specs.Packing.{payloadOf, packed, firstHalf, secondHalf, refusalIn, flag}
 use Rattle.codec_abi.specs.Numbers as abi
 use Rattle.vectors.specs.declared.fields.Reply.{Reply}
 use Rattle.vectors.specs.declared.motion.Named.{Named}
@@ -165,3 +168,15 @@ frameReply n frame = statusReply n (abi.statusNumber (frame .flags)) (abi.status
 
 abbrev pub decodeStatusFrame : List ℕ → List ℕ → Reply
 decodeStatusFrame v name = frameReply (limitsNamed name .refusal) (frameOf v (limitsNamed name .limits))
+
+-- ---- names
+
+-- how many bytes, and all 16
+abbrev pub nameShown : Name → Reply
+nameShown name = replied 0 (name .length) (swapped (firstHalf (name .bytes))) (swapped (secondHalf (name .bytes)))
+
+abbrev pub parameterName : List ℕ → Reply
+parameterName v = nameShown (parameters.parameterName (half v 0))
+
+abbrev pub protocolName : List ℕ → Reply
+protocolName v = nameShown (names.protocolName (byte v 0))

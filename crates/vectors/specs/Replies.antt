@@ -32,5 +32,9 @@ valueReply k v name =
     (cond (eqb k 18) (answer.temperature v)
     (cond (eqb k 19) (answer.modelLimits name) (cond (eqb k 20) (answer.encodeMitCommand v name) (answer.decodeStatusFrame v name))))))
 
+unfoldable pub nameReply : ℕ → List ℕ → Reply
+nameReply k v = cond (eqb k 22) (answer.parameterName v) (answer.protocolName v)
+
 abbrev pub replyTo : ℕ → List ℕ → List ℕ → Reply
-replyTo k v name = cond (ltb k 10) (parameterReply k v) (cond (ltb k 15) (frameReply k v) (valueReply k v name))
+replyTo k v name =
+    cond (ltb k 10) (parameterReply k v) (cond (ltb k 15) (frameReply k v) (cond (ltb k 22) (valueReply k v name) (nameReply k v)))

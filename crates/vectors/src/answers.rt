@@ -1,4 +1,4 @@
-// Replies about ids, parameters, fault reports, pings and versions. v has a request's numbers.
+// Replies about ids, parameters, fault reports, pings, versions and names. v has a request's numbers.
 use crate::fields::Reply;
 use crate::fields::low8;
 use crate::fields::low16;
@@ -8,6 +8,7 @@ use crate::fields::swapped;
 use crate::fields::swapped4;
 use codec::word::signed_of;
 use codec_abi::ids;
+use codec_abi::names;
 use codec_abi::parameters;
 use codec_abi::replies;
 ghost use mathlib.Core.Path.{_≡_};
@@ -129,4 +130,22 @@ pub fn decode_version_reply(v: [u64; 6]) -> Reply
     let mut version: u32 = 0;
     let said = replies::codec_decode_version_reply(low32(v[0]), swapped(v[1]), &mut version) as u64;
     replied(said / 0x1_0000, said, swapped4(version as u64), 0)
+}
+
+pub fn parameter_name(v: [u64; 6]) -> Reply
+    ensures { λ r. ⌜ r ≡ answer.parameterName v ⌝ }
+{
+    let mut first: u64 = 0;
+    let mut second: u64 = 0;
+    let n = names::codec_parameter_name(low16(v[0]), &mut first, &mut second);
+    replied(0, n as u64, swapped(first), swapped(second))
+}
+
+pub fn protocol_name(v: [u64; 6]) -> Reply
+    ensures { λ r. ⌜ r ≡ answer.protocolName v ⌝ }
+{
+    let mut first: u64 = 0;
+    let mut second: u64 = 0;
+    let n = names::codec_protocol_name(low8(v[0]), &mut first, &mut second);
+    replied(0, n as u64, swapped(first), swapped(second))
 }

@@ -3,7 +3,7 @@ use crate::answers;
 use crate::fields::Reply;
 use crate::motion;
 ghost use mathlib.Core.Path.{_≡_};
-ghost use Rattle.vectors.specs.Replies.{replyTo, parameterReply, frameReply, valueReply};
+ghost use Rattle.vectors.specs.Replies.{replyTo, parameterReply, frameReply, valueReply, nameReply};
 
 pub fn reply(k: usize, v: [u64; 6], name: &[u8]) -> Reply
     ensures { λ r. ⌜ r ≡ replyTo k v (now (name .entry)) ⌝ }
@@ -14,7 +14,10 @@ pub fn reply(k: usize, v: [u64; 6], name: &[u8]) -> Reply
     if k < 15 {
         return frame_reply(k, v);
     }
-    value_reply(k, v, name)
+    if k < 22 {
+        return value_reply(k, v, name);
+    }
+    name_reply(k, v)
 }
 
 // Ids, parameters, modes and the protocol command.
@@ -60,5 +63,15 @@ fn value_reply(k: usize, v: [u64; 6], name: &[u8]) -> Reply
         19 => motion::model_limits(name),
         20 => motion::encode_mit_command(v, name),
         _ => motion::decode_status_frame(v, name),
+    }
+}
+
+// Names.
+fn name_reply(k: usize, v: [u64; 6]) -> Reply
+    ensures { λ r. ⌜ r ≡ nameReply k v ⌝ }
+{
+    match k {
+        22 => answers::parameter_name(v),
+        _ => answers::protocol_name(v),
     }
 }

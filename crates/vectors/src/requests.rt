@@ -18,11 +18,11 @@ pub struct Args {
 pub(crate) fn answer(line: &[u8], out: &mut [u8], at: usize) -> usize {
     let k = request_of(text::word(line, 0));
     let shape = text::word(
-        b"842 8 4 2 2 2 4 48 428 4P P 8P  8P 8P 88 88 48 4 N 88888N 4PN",
+        b"842 8 4 2 2 2 4 48 428 4P P 8P  8P 8P 88 88 48 4 N 88888N 4PN 4 2",
         k,
     );
     let args = arguments(line, shape);
-    if k < 22 {
+    if k < 24 {
         if args.good {
             let v = args.v;
             let name = text::word(line, shape.len());
@@ -35,17 +35,17 @@ pub(crate) fn answer(line: &[u8], out: &mut [u8], at: usize) -> usize {
 // The reply to request k, as its own shape says.
 fn put_answer(k: usize, v: [u64; 6], name: &[u8], out: &mut [u8], at: usize) -> usize {
     let shape = text::word(
-        b"8 242 2 2 K P P P 8 28 884 22P P 2 28 4 4 8 8 88888 4P 2228888",
+        b"8 242 2 2 K P P P 8 28 884 22P P 2 28 4 4 8 8 88888 4P 2228888 2PP 2PP",
         k,
     );
     put_reply(reply(k, v, name), shape, out, at)
 }
 
-// The number of the request that a word names; 22 for none.
+// The number of the request that a word names; 24 for none.
 fn request_of(w: &[u8]) -> usize {
     text::which(
-        b"build_ext_id ext_id_parts parameter_info from_raw validate_protocol_cmd encode_set_protocol encode_parameter_read encode_parameter_write encode_parameter_value decode_read_parameter_value decode_fault_report decode_ping_reply encode_version_request is_version_reply decode_version_reply motion_raw gain_raw status_value temperature model_limits encode_mit_command decode_status_frame",
-        22,
+        b"build_ext_id ext_id_parts parameter_info from_raw validate_protocol_cmd encode_set_protocol encode_parameter_read encode_parameter_write encode_parameter_value decode_read_parameter_value decode_fault_report decode_ping_reply encode_version_request is_version_reply decode_version_reply motion_raw gain_raw status_value temperature model_limits encode_mit_command decode_status_frame parameter_name protocol_name",
+        24,
         w,
     )
 }

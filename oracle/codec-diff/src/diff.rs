@@ -2,6 +2,7 @@
 mod ids;
 mod models;
 mod motion;
+mod names;
 mod parameters;
 mod replies;
 mod report;
@@ -17,6 +18,7 @@ pub fn run(seed: u64) -> ExitCode {
     let mut report = Report::new(seed);
     ids::compare(&mut report);
     parameters::compare(&mut report);
+    names::compare(&mut report);
     replies::compare(&mut report);
     words::compare(&mut report);
     motion::compare(&mut report);

@@ -1,6 +1,7 @@
 //! The sample and its two files.
 mod ids;
 mod motion;
+mod names;
 mod parameters;
 mod replies;
 mod sample;

@@ -29,6 +29,24 @@ pub struct Value {
     pub bits: u32,
 }
 
+/// A name: its bytes, then spaces, and how many bytes it has.
+#[derive(Clone, Copy, Debug, PartialEq, Eq)]
+pub struct Name {
+    pub length: usize,
+    pub bytes: [u8; 16],
+}
+
+impl Name {
+    pub fn of(text: &str) -> Name {
+        let mut bytes = [b' '; 16];
+        bytes[..text.len()].copy_from_slice(text.as_bytes());
+        Name {
+            length: text.len(),
+            bytes,
+        }
+    }
+}
+
 /// Flags: bit i is field i of the Rust's FaultFlags, bit 11 the warning.
 #[derive(Clone, Copy, Debug, PartialEq, Eq)]
 pub struct Faults {

@@ -5,6 +5,11 @@ unsafe extern "C" {
     pub safe fn codec_build_ext_id(comm_type: u32, extra_data: u16, node_id: u8) -> u32;
     pub safe fn codec_ext_id_parts(arbitration_id: u32) -> u64;
     pub safe fn codec_parameter_info(id: u16) -> u8;
+    pub safe fn codec_parameter_name(id: u16, first: &mut u64, second: &mut u64) -> usize;
+    pub safe fn codec_protocol_name(cmd: u8, first: &mut u64, second: &mut u64) -> usize;
+    pub safe fn codec_communication_types(out: &mut [u32; 14]);
+    pub safe fn codec_parameter_ids(out: &mut [u16; 31]);
+    pub safe fn codec_protocol_constants(out: &mut [u8; 7]);
     pub safe fn codec_mode_from_raw(value: i8) -> u16;
     pub safe fn codec_validate_protocol_cmd(cmd: u8) -> u8;
     pub safe fn codec_encode_set_protocol(cmd: u8, payload: &mut u64) -> u8;

@@ -1,7 +1,7 @@
 //! Our codec, from the static library libcodec_abi.a, each function in the shape of the Rust's answer.
 //! A payload crosses the C interface as a number, byte 0 lowest.
 use common::answers::{
-    Encoded, Faults, IdParts, Limits, Motion, Ping, SetProtocol, Status, Value, Version,
+    Encoded, Faults, IdParts, Limits, Motion, Name, Ping, SetProtocol, Status, Value, Version,
 };
 use common::Command;
 
@@ -23,6 +23,44 @@ pub fn ext_id_parts(id: u32) -> IdParts {
 
 pub fn parameter_info(id: u16) -> u8 {
     abi::codec_parameter_info(id)
+}
+
+/// A name's 16 bytes cross as two numbers.
+fn name_of(length: usize, first: u64, second: u64) -> Name {
+    let mut bytes = [0; 16];
+    bytes[..8].copy_from_slice(&first.to_le_bytes());
+    bytes[8..].copy_from_slice(&second.to_le_bytes());
+    Name { length, bytes }
+}
+
+pub fn parameter_name(id: u16) -> Name {
+    let (mut first, mut second) = (u64::MAX, u64::MAX);
+    let length = abi::codec_parameter_name(id, &mut first, &mut second);
+    name_of(length, first, second)
+}
+
+pub fn protocol_name(cmd: u8) -> Name {
+    let (mut first, mut second) = (u64::MAX, u64::MAX);
+    let length = abi::codec_protocol_name(cmd, &mut first, &mut second);
+    name_of(length, first, second)
+}
+
+pub fn communication_types() -> [u32; 14] {
+    let mut out = [u32::MAX; 14];
+    abi::codec_communication_types(&mut out);
+    out
+}
+
+pub fn parameter_ids() -> [u16; 31] {
+    let mut out = [u16::MAX; 31];
+    abi::codec_parameter_ids(&mut out);
+    out
+}
+
+pub fn protocol_constants() -> [u8; 7] {
+    let mut out = [u8::MAX; 7];
+    abi::codec_protocol_constants(&mut out);
+    out
 }
 
 pub fn mode_from_raw(value: i8) -> u16 {

@@ -2,6 +2,7 @@
 //! Rust and takes its answer apart.
 #![cfg(rust_found)]
 
+pub mod constants;
 pub mod ids;
 pub mod models;
 pub mod motion;

@@ -1,5 +1,5 @@
 //! Parameters: kinds, modes, payloads, values written and read.
-use common::answers::{Encoded, Value};
+use common::answers::{Encoded, Name, Value};
 use motor_core::bus::CanFrame;
 use motor_core::device::MotorDevice;
 use motor_core::error::MotorError;
@@ -28,6 +28,11 @@ pub fn parameter_info(id: u16) -> u8 {
         ParameterDataType::UInt32 => 4,
         ParameterDataType::Float32 => 5,
     }
+}
+
+/// The name of a parameter; one of no byte if it is unlisted.
+pub fn parameter_name(id: u16) -> Name {
+    Name::of(registers::parameter_info(id).map_or("", |info| info.name))
 }
 
 /// A mode's number, or 256 + the refusal's.

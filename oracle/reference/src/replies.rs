@@ -1,5 +1,5 @@
 //! The protocol command, fault reports, ping and version replies.
-use common::answers::{Faults, Ping, SetProtocol, Version};
+use common::answers::{Faults, Name, Ping, SetProtocol, Version};
 use robstride::protocol;
 
 const UNKNOWN_PROTOCOL: u8 = 12;
@@ -12,6 +12,10 @@ pub fn validate_protocol_cmd(cmd: u8) -> u8 {
         Ok(()) => 0,
         Err(_) => UNKNOWN_PROTOCOL,
     }
+}
+
+pub fn protocol_name(cmd: u8) -> Name {
+    Name::of(protocol::protocol_name(cmd))
 }
 
 pub fn encode_set_protocol(cmd: u8) -> SetProtocol {

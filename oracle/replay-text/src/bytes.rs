@@ -2,18 +2,17 @@
 use crate::program::answers;
 use common::random::{Random, SEED};
 
-/// How many answers an input asks for: one for each line that is neither blank nor a comment.
+/// How many answers an input asks for: one for each line that is neither blank nor a comment, and one for a torn end.
 fn asked(input: &[u8]) -> usize {
     let mut lines: Vec<&[u8]> = input.split(|byte| *byte == b'\n').collect();
-    if lines.last().is_some_and(|line| line.is_empty()) {
-        lines.pop();
-    }
+    let torn = lines.pop().is_some_and(|end| !end.is_empty());
     let shown = |line: &&[u8]| line.strip_suffix(b"\r").unwrap_or(line).to_vec();
     lines
         .iter()
         .map(shown)
         .filter(|line| !line.is_empty() && line[0] != b'#')
         .count()
+        + usize::from(torn)
 }
 
 /// How many answers an output has: of a look the last line counts, and frames are no answers.

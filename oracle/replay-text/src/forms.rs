@@ -19,8 +19,36 @@ refused 21
 pub fn example() -> Result<String, String> {
     same(EXAMPLE, EXAMPLE_ANSWERS)?;
     same(&EXAMPLE.replace('\n', "\r\n"), EXAMPLE_ANSWERS)?;
-    same(EXAMPLE.trim_end(), EXAMPLE_ANSWERS)?;
-    Ok("with LF, with CR LF, and without the last LF".to_string())
+    Ok("with LF, and with CR LF".to_string())
+}
+
+/// What the end of an input may be where it tears a line, whatever the line would have been.
+const TORN: &[&str] = &[
+    "#",
+    "# a comment",
+    "\r",
+    " ",
+    "fresh",
+    "look 1",
+    "look 1\r",
+    "remove 1 100",
+    "start 1 100 get_parameter 0x7019 50",
+    "start 1 100 get_parameter 0x7019 5000",
+    "(0.120000) can0 028001FD#7FFF7FFF7FFF00FA",
+    "no event",
+];
+
+/// A last line without LF is half a line as often as a whole one: it is an error, and not run.
+pub fn torn() -> Result<String, String> {
+    for end in TORN {
+        same(end, "error the input ends within a line\n")?;
+        same(
+            &format!("{EXAMPLE}{end}"),
+            &format!("{EXAMPLE_ANSWERS}error the input ends within a line\n"),
+        )?;
+    }
+    same("", "")?;
+    Ok(format!("{} ends", TORN.len()))
 }
 
 fn same(input: &str, expected: &str) -> Result<(), String> {

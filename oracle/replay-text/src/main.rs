@@ -14,12 +14,15 @@ type Test = fn() -> Result<String, String>;
 
 const TESTS: &[(&str, Test)] = &[
     ("REPLAY.md's example", forms::example),
+    ("a torn end", forms::torn),
     ("lines and their answers", forms::answered),
     ("lines that are no events", forms::errors),
     ("what a look shows", forms::looked),
     ("input in pieces", pieces::any_pieces),
     ("a conversation", pieces::conversation),
     ("long lines", pieces::long_lines),
+    ("looks at 96 readings", pieces::full_looks),
+    ("a read that fails", pieces::unreadable),
     ("constant memory", pieces::memory),
     ("any bytes", bytes::any_bytes),
     ("any words", bytes::any_words),

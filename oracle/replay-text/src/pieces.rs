@@ -1,5 +1,5 @@
 //! Input in any pieces, long lines, a conversation, and memory.
-use crate::program::{answer, answers, start};
+use crate::program::{answer, answers, from, start};
 use common::random::{Random, SEED};
 use std::io::{BufRead, BufReader, Write};
 
@@ -111,9 +111,12 @@ pub fn long_lines() -> Result<String, String> {
         ("#".repeat(3_000_000), ""),
     ];
     for (line, expected) in &cases {
-        for end in ["\n", ""] {
+        for (end, expected) in [
+            ("\n", *expected),
+            ("", "error the input ends within a line\n"),
+        ] {
             let said = answer(format!("{line}{end}").as_bytes())?;
-            if said != *expected {
+            if said != expected {
                 return Err(format!(
                     "a line of {} bytes was answered {said:?}",
                     line.len()
@@ -129,6 +132,53 @@ pub fn long_lines() -> Result<String, String> {
         }
     }
     Ok(format!("{} lines, up to 3,000,000 bytes", cases.len()))
+}
+
+/// Looks at all the readings that a motor can hold, many in one read: each answer is written whole.
+pub fn full_looks() -> Result<String, String> {
+    const READINGS: u64 = 96;
+    let mut text = "register 1 0xFD rs-00 0 0\n".to_string();
+    let mut expected = "ok\n".to_string();
+    for i in 0..READINGS {
+        text += &format!("(0.{:03}000) can0 110001FD#{:02X}70000000008040\n", i, i);
+        expected += "ok\n";
+    }
+    let shown = answer(format!("{text}look 1\n").as_bytes())?;
+    let look = shown
+        .strip_prefix(&expected)
+        .ok_or("the readings aren't held")?;
+    let lines = look.lines().filter(|line| line.starts_with("reading 70"));
+    if lines.count() as u64 != READINGS || !look.ends_with("\nend\n") {
+        return Err(format!("a look is answered {look:?}"));
+    }
+    // Short answers before them, so that a look begins at every place where the buffer may end.
+    let mut runs = 0;
+    for short in (0..look.len() / 10).step_by(20) {
+        let input = text.clone() + &"look 9\n".repeat(short) + &"look 1\n".repeat(60);
+        let output = expected.clone() + &"refused 6\n".repeat(short) + &look.repeat(60);
+        for size in [input.len(), 1000] {
+            if answers(input.as_bytes().chunks(size))? != output.as_bytes() {
+                return Err(format!(
+                    "60 looks behind {short} lines, in pieces of {size}, are cut"
+                ));
+            }
+            runs += 1;
+        }
+    }
+    Ok(format!("60 looks of {} bytes, {runs} ways", look.len()))
+}
+
+/// A read that fails is no end of the input: it is said, and what was torn by it isn't answered.
+pub fn unreadable() -> Result<String, String> {
+    let folder = std::fs::File::open(".").map_err(|error| error.to_string())?;
+    let output = from(folder.into())?
+        .wait_with_output()
+        .map_err(|error| error.to_string())?;
+    let said = String::from_utf8_lossy(&output.stderr);
+    if said != "replay: the input could not be read\n" || !output.stdout.is_empty() {
+        return Err(format!("a folder as input: {said:?}"));
+    }
+    Ok("a folder as input".to_string())
 }
 
 /// A long session takes no more memory than a short one.

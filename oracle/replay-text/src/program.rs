@@ -15,8 +15,13 @@ fn path() -> PathBuf {
 }
 
 pub fn start() -> Result<Child, String> {
+    from(Stdio::piped())
+}
+
+/// The program with this as its input.
+pub fn from(input: Stdio) -> Result<Child, String> {
     Command::new(path())
-        .stdin(Stdio::piped())
+        .stdin(input)
         .stdout(Stdio::piped())
         .stderr(Stdio::piped())
         .spawn()

@@ -63,8 +63,8 @@ struct Clock {
     /// What is to come: keys by time and, at the same time, in the order of scheduling.
     coming: BTreeMap<(Duration, usize), usize>,
     scheduled: usize,
-    /// The last time that was made of a time and a length.
-    deadline: Duration,
+    /// The last time that was made of a time and a length, until the wait that it is for ends.
+    deadline: Option<Duration>,
     environment: Environment,
     overruns: Option<(Random, u16)>,
     watcher: Option<Rc<dyn Watcher>>,
@@ -106,8 +106,10 @@ pub fn schedule(time: Duration, key: usize) {
     });
 }
 
-/// Goes on to a time, by way of all that is scheduled until then, that time included.
+/// Goes on to a time, by way of all that is scheduled until then, that time included. No code waits
+/// here, so none polls any more.
 pub fn pass(end: Duration) {
+    with(|clock| clock.deadline = None);
     pass_until(end, || false);
 }
 
@@ -128,15 +130,14 @@ pub(crate) fn variable(name: &str) -> Option<String> {
 
 /// A time was made of a time and a length: the deadline of the polls that follow.
 pub(crate) fn made(deadline: Duration) {
-    with(|clock| clock.deadline = deadline);
+    with(|clock| clock.deadline = Some(deadline));
 }
 
 pub(crate) fn sleep(length: Duration) {
     let (now, deadline) = with(|clock| (clock.now, clock.deadline));
-    let wait = if length <= LONGEST_POLL && now < deadline {
-        Wait::Poll(deadline)
-    } else {
-        Wait::Pause(now + length)
+    let wait = match deadline {
+        Some(deadline) if length <= LONGEST_POLL && now < deadline => Wait::Poll(deadline),
+        _ => Wait::Pause(now + length),
     };
     wait_until(wait, now + length, || false);
 }
@@ -148,7 +149,11 @@ pub(crate) fn wait_for_notice(length: Duration, came: impl Fn() -> bool) -> bool
     came()
 }
 
+/// A loop of polls has ended where its code waits otherwise, and its deadline with it.
 fn wait_until(wait: Wait, end: Duration, over: impl Fn() -> bool) {
+    if !matches!(wait, Wait::Poll(_)) {
+        with(|clock| clock.deadline = None);
+    }
     let watcher = with(|clock| clock.watcher.clone());
     if let Some(watcher) = &watcher {
         watcher.waits(wait);

@@ -78,6 +78,40 @@ fn a_sleep_goes_by_way_of_what_comes() {
     assert_eq!(notes.taken(), expected);
 }
 
+/// A deadline is a loop's: a pause, a wait for a notice or the end of the code's call ends the loop,
+/// and a short sleep after it is no poll.
+#[test]
+fn a_deadline_ends_with_its_loop() {
+    let notes = Rc::new(Notes::default());
+    let ends: [&dyn Fn(); 3] = [
+        &|| sleep(ms(30)),
+        &|| {
+            let mutex = Mutex::new(());
+            let guard = mutex.lock().unwrap();
+            drop(notes.ready.wait_timeout(guard, ms(30)).unwrap());
+        },
+        &|| clock::pass(clock::now() + ms(30)),
+    ];
+    for end in ends {
+        clock::run(at(100), notes.clone(), || {
+            let _deadline = Instant::now() + ms(500);
+            sleep(ms(4));
+            end();
+            sleep(ms(4));
+            let _deadline = Instant::now() + ms(50);
+            sleep(ms(4));
+        });
+        let waits = notes.taken().into_iter().filter(|(_, text)| text != "woke");
+        let waits: Vec<_> = waits.collect();
+        let last = [
+            note(134, "waits Pause(138ms)"),
+            note(138, "waits Poll(188ms)"),
+        ];
+        assert_eq!(waits[0], note(100, "waits Poll(600ms)"));
+        assert_eq!(waits[waits.len() - 2..], last);
+    }
+}
+
 #[test]
 fn a_wait_ends_with_the_notice_or_its_time() {
     let notes = Rc::new(Notes::default());

@@ -1,9 +1,10 @@
 -- How an operation goes on: windows, candidates, marks, deadlines and pauses, once for all operations. Definitions only.
 use Prim.Native.Nat.{ℕ, _+_}
 use mathlib.Core.Bool.{cond}
+use mathlib.Core.List.{[]}
 use lib.Dec.{ltb, eqb}
 use Rattle.codec.specs.declared.bus.CanFrame.{CanFrame}
-use Rattle.codec.specs.declared.error.Refusal.the-variants as refusal
+use Rattle.codec.specs.Numbers.{refusalOf}
 use Rattle.codec.specs.declared.protocol.EncodedValue.{EncodedValue}
 use Rattle.codec.specs.declared.protocol.EncodedValue.the-variants as encoded
 use Rattle.codec.specs.declared.word.Word.{Word}
@@ -219,7 +220,7 @@ lookedPause s now op k = cond (ltb now (op .due)) (waits op) (entered s now (ack
 
 -- what a step does, by where the operation stands; f is the reading held for the parameter that is waited for
 abbrev pub advanced : Sight → ℕ → Operation → Found → Phase → Move
-advanced s now op f phase.Idle = ended (said.Refused refusal.NothingRunning) effect.Nothing
+advanced s now op f phase.Idle = ended (said.Refused (refusalOf 21 [])) effect.Nothing
 advanced s now op f (phase.Pausing k) = lookedPause s now op k
 advanced s now op f (phase.Waiting w) = looked s now op f w
 
@@ -230,7 +231,7 @@ begunBy s now c = entered s now (beginsWith c)
 -- no move is made after 10^15 (7)
 
 abbrev pub tooLate : Move
-tooLate = ended (said.Refused refusal.TimeOutOfRange) effect.Nothing
+tooLate = ended (said.Refused (refusalOf 7 [])) effect.Nothing
 
 abbrev pub inTime : ℕ → Move → Move
 inTime now v = cond (ltb latestTime now) tooLate v

@@ -2,12 +2,14 @@
 -- window is gone; each block below reads like the Rust's method of that name. Definitions only.
 use Prim.Native.Nat.{ℕ, zero, suc, _%_, _^_}
 use mathlib.Core.Bool.{Bool, cond, _&&_}
+use mathlib.Core.List.{[]}
 use lib.IntN.{ℤ}
 use lib.Dec.{eqb, ltb}
 use lib.Ieee.{Float, binary32, mul, lt, ofBits}
 use mir.Syntax.{w8}
 use mir.Val.{ofZ}
 use Rattle.codec.specs.declared.error.Refusal.the-variants as refusal
+use Rattle.codec.specs.Numbers.{refusalOf}
 use Rattle.codec.specs.declared.error.LastMode.the-variants as last
 use Rattle.codec.specs.declared.protocol.ParameterValue.{ParameterValue}
 use Rattle.codec.specs.declared.protocol.ParameterValue.the-variants as value
@@ -56,7 +58,7 @@ finished = node.Finish outcome.Done
 
 -- the last window is gone
 abbrev pub failedBySilence : Node
-failedBySilence = node.Fail refusal.WindowsGone
+failedBySilence = node.Fail (refusalOf 16 [])
 
 -- a request to each candidate until the feedback sequence rises; then what follows
 abbrev pub sendWithStatusAck : Request → ℕ → Acked → Node
@@ -100,7 +102,7 @@ setProtocol protocol timeout =
 
 abbrev pub modeOr17 : ModeRead → (ControlMode → Node) → Node
 modeOr17 (read.Mode m) k = k m
-modeOr17 (read.Refused r) k = node.Fail r
+modeOr17 (read.Refused r) k = node.Fail (refusalOf 17 [])
 
 abbrev pub signedIn : ParameterValue → SignedIn
 signedIn (value.I8 v) = signed.Signed v
@@ -117,7 +119,7 @@ floatIn (value.U32 v) = float.Another
 floatIn (value.F32 w) = float.Float w
 
 abbrev pub otherKind : Node
-otherKind = node.Fail refusal.ReadingOfAnotherKind
+otherKind = node.Fail (refusalOf 20 [])
 
 abbrev pub asFlag : ParameterValue → Node
 asFlag (value.I8 v) = otherKind
@@ -134,12 +136,8 @@ abbrev pub asFloat : FloatIn → (Word → Node) → Node
 asFloat (float.Float w) k = k w
 asFloat float.Another k = otherKind
 
-abbrev pub modeIn : SignedIn → ModeRead
-modeIn (signed.Signed n) = controlModeFromRaw n
-modeIn signed.Another = read.Refused refusal.ReadingOfAnotherKind
-
 abbrev pub asMode : SignedIn → (ControlMode → Node) → Node
-asMode v k = modeOr17 (modeIn v) k
+asMode v k = asSigned v (λ n. modeOr17 (controlModeFromRaw n) k)
 
 -- ---- controlled_stop: the run mode is read, and what holds the motor in that mode is sent
 
@@ -172,18 +170,18 @@ isUsable w = ltb 0 w && ltb w 0x7F800000
 abbrev pub positionTarget : ℕ → Node
 positionTarget position = put 0x7016 (value.F32 (word position)) acked.Done
 
--- the limit of this parameter, then k; or at once what k comes to
-abbrev pub limit : ℕ → ℕ → Acked → Node → Node
-limit id w k at-once = cond (isUsable (absOf w)) (put id (value.F32 (word (absOf w))) k) at-once
+-- a limit is written to this parameter, then k; or at once what k comes to
+abbrev pub putLimit : ℕ → ℕ → Acked → Node → Node
+putLimit id w k at-once = cond (isUsable (absOf w)) (put id (value.F32 (word (absOf w))) k) at-once
 
 abbrev pub cspLimit : ℕ → ℕ → Node
-cspLimit position most = limit 0x7017 most (acked.Target position) (positionTarget position)
+cspLimit position most = putLimit 0x7017 most (acked.Target position) (positionTarget position)
 
 abbrev pub ppAcceleration : ℕ → ℕ → Node
-ppAcceleration position acceleration = limit 0x7025 acceleration (acked.Target position) (positionTarget position)
+ppAcceleration position acceleration = putLimit 0x7025 acceleration (acked.Target position) (positionTarget position)
 
 abbrev pub ppVelocity : ℕ → ℕ → ℕ → Node
-ppVelocity position most acceleration = limit 0x7024 most (acked.PpAcceleration position acceleration) (ppAcceleration position acceleration)
+ppVelocity position most acceleration = putLimit 0x7024 most (acked.PpAcceleration position acceleration) (ppAcceleration position acceleration)
 
 -- ---- ensure_control_mode: read; if it isn't the mode, off, a pause of 60, and three attempts to write it and read it back, with
 -- pauses of 30. A failed disable doesn't end it

@@ -2,7 +2,7 @@
 use crate::engine::command::Outcome;
 use crate::engine::node::Node;
 use crate::engine::script::failed_by_kind;
-use codec::error::Refusal;
+use crate::engine::script::failed_by_mode;
 use codec::protocol::ParameterValue;
 use codec::registers::ControlMode;
 use codec::registers::ModeRead;
@@ -10,7 +10,7 @@ use codec::word::Word;
 ghost use mathlib.Core.Path.{_≡_};
 ghost use Rattle.motor.specs.declared.engine.command.Outcome.the-variants as outcome;
 ghost use Rattle.motor.specs.declared.engine.node.Node.the-variants as node;
-ghost use Rattle.motor.specs.engine.Script.{signedIn, floatIn, asFlag, asSigned, asFloat, modeIn, asMode};
+ghost use Rattle.motor.specs.engine.Script.{signedIn, floatIn, asFlag, asSigned, asFloat, asMode};
 
 // The signed number of a reading, or that it is of another kind.
 pub enum SignedIn {
@@ -27,19 +27,19 @@ pub enum FloatIn {
 pub(super) fn signed_in(reading: ParameterValue) -> SignedIn
     ensures { λ r. ⌜ r ≡ signedIn reading ⌝ }
 {
-    match reading {
-        ParameterValue::I8(v) => SignedIn::Signed(v),
-        _ => SignedIn::Another,
-    }
+    let ParameterValue::I8(v) = reading else {
+        return SignedIn::Another;
+    };
+    SignedIn::Signed(v)
 }
 
 pub(super) fn float_in(reading: ParameterValue) -> FloatIn
     ensures { λ r. ⌜ r ≡ floatIn reading ⌝ }
 {
-    match reading {
-        ParameterValue::F32(word) => FloatIn::Float(word),
-        _ => FloatIn::Another,
-    }
+    let ParameterValue::F32(word) = reading else {
+        return FloatIn::Another;
+    };
+    FloatIn::Float(word)
 }
 
 // ---- a reading of a kind, or 20
@@ -47,10 +47,10 @@ pub(super) fn float_in(reading: ParameterValue) -> FloatIn
 pub(super) fn as_flag(reading: ParameterValue) -> Node
     ensures { λ r. ⌜ r ≡ asFlag reading ⌝ }
 {
-    match reading {
-        ParameterValue::U8(flag) => Node::Finish(Outcome::Flag(flag)),
-        _ => failed_by_kind(),
-    }
+    let ParameterValue::U8(flag) = reading else {
+        return failed_by_kind();
+    };
+    Node::Finish(Outcome::Flag(flag))
 }
 
 pub(super) fn as_f32(reading: ParameterValue) -> Node
@@ -73,21 +73,14 @@ pub(super) fn as_i8(reading: ParameterValue) -> Node
 
 // ---- get_control_mode
 
-// The run mode of a reading: 20 where it is of another kind, 17 where it is no mode.
-pub(super) fn mode_in(reading: ParameterValue) -> ModeRead
-    ensures { λ r. ⌜ r ≡ modeIn (signedIn reading) ⌝ }
-{
-    let SignedIn::Signed(number) = signed_in(reading) else {
-        return ModeRead::Refused(Refusal::ReadingOfAnotherKind);
-    };
-    ControlMode::from_raw(number)
-}
-
 pub(super) fn as_mode(reading: ParameterValue) -> Node
     ensures { λ r. ⌜ r ≡ asMode (signedIn reading) (λ m. node.Finish (outcome.Mode m)) ⌝ }
 {
-    match mode_in(reading) {
-        ModeRead::Mode(mode) => Node::Finish(Outcome::Mode(mode)),
-        ModeRead::Refused(refusal) => Node::Fail(refusal),
-    }
+    let SignedIn::Signed(number) = signed_in(reading) else {
+        return failed_by_kind();
+    };
+    let ModeRead::Mode(mode) = ControlMode::from_raw(number) else {
+        return failed_by_mode();
+    };
+    Node::Finish(Outcome::Mode(mode))
 }

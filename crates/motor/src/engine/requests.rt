@@ -75,7 +75,7 @@ fn request_payload(request: Request) -> [u8; 8]
 fn frame_to(sight: Sight, comm_type: u32, extra_data: u16, payload: [u8; 8]) -> CanFrame
     ensures { λ r. ⌜ r ≡ frameTo sight «comm_type» «extra_data» payload ⌝ }
 {
-    let node = (sight.motor_id % 256) as u8;
+    let node = (sight.motor_id & 0xFF) as u8;
     CanFrame {
         arbitration_id: build_ext_id(comm_type, extra_data, node),
         data: payload,
@@ -131,7 +131,7 @@ pub(super) fn rename_frame(sight: Sight, new_id: u8) -> CanFrame
     let held = sight.ping_reply;
     let reply = held.reply;
     let payload = reply.payload;
-    let extra = (new_id as u16) * 256 + sight.feedback_id % 256;
+    let extra = ((new_id as u16) << 8) | (sight.feedback_id & 0xFF);
     frame_to(sight, CommunicationType::SET_DEVICE_ID, extra, payload)
 }
 

@@ -101,10 +101,11 @@ fn written(sight: Sight, now: u64, param_id: u16, value: ParameterValue, then: A
     requires { ⌜ now ≤ latestTime ⌝ }
     ensures { λ r. ⌜ r ≡ write sight now «param_id» then (encodeParameterValue «param_id» value) ⌝ }
 {
-    match encode_parameter_value(param_id, value) {
-        EncodedValue::Raw(raw) => return write_raw(sight, now, Request::Write(param_id, raw), then),
+    let raw = match encode_parameter_value(param_id, value) {
+        EncodedValue::Raw(raw) => raw,
         EncodedValue::Refused(refusal) => return ended(Said::Refused(refusal), Effect::Nothing),
-    }
+    };
+    write_raw(sight, now, Request::Write(param_id, raw), then)
 }
 
 // A wait begins, at its first host.
@@ -142,10 +143,10 @@ fn retried(sight: Sight, now: u64, operation: Operation, wait: Wait) -> Move
     ensures { λ r. ⌜ r ≡ retried sight now operation wait ⌝ }
 {
     let hosts = operation.hosts;
-    match next_host(sight.feedback_id, hosts, operation.candidate) {
-        Host::At(host, next) => tried(sight, now, wait, operation.window, hosts, host, next),
-        Host::Gone => entered(sight, now, windows_gone(wait)),
-    }
+    let Host::At(host, next) = next_host(sight.feedback_id, hosts, operation.candidate) else {
+        return entered(sight, now, windows_gone(wait));
+    };
+    tried(sight, now, wait, operation.window, hosts, host, next)
 }
 
 // An acknowledgement: the deadline first.

@@ -48,6 +48,13 @@ pub(super) fn failed_by_kind() -> Node
     Node::Fail(Refusal::ReadingOfAnotherKind)
 }
 
+// 17: a run mode that isn't 0, 1, 2 or 5.
+pub(super) fn failed_by_mode() -> Node
+    ensures { λ r. ⌜ r ≡ node.Fail refusal.UnsupportedRunMode ⌝ }
+{
+    Node::Fail(Refusal::UnsupportedRunMode)
+}
+
 // Finished, with nothing to give.
 pub(super) fn finished() -> Node
     ensures { λ r. ⌜ r ≡ finished ⌝ }

@@ -1,13 +1,15 @@
 // controlled_stop: the run mode is read, and what holds the motor in that mode is sent.
 use crate::engine::command::Outcome;
 use crate::engine::kinds::FloatIn;
+use crate::engine::kinds::SignedIn;
 use crate::engine::kinds::float_in;
-use crate::engine::kinds::mode_in;
+use crate::engine::kinds::signed_in;
 use crate::engine::node::Acked;
 use crate::engine::node::Got;
 use crate::engine::node::Node;
 use crate::engine::operation::Sight;
 use crate::engine::script::failed_by_kind;
+use crate::engine::script::failed_by_mode;
 use crate::engine::script::get_parameter;
 use crate::engine::script::write_float;
 use codec::model::limits_of;
@@ -53,10 +55,13 @@ fn stop_in(timeout: u64, mode: ControlMode) -> Node
 pub(super) fn stop_mode(timeout: u64, reading: ParameterValue) -> Node
     ensures { λ r. ⌜ r ≡ asMode (signedIn reading) (stopIn timeout) ⌝ }
 {
-    match mode_in(reading) {
-        ModeRead::Mode(mode) => stop_in(timeout, mode),
-        ModeRead::Refused(refusal) => Node::Fail(refusal),
-    }
+    let SignedIn::Signed(number) = signed_in(reading) else {
+        return failed_by_kind();
+    };
+    let ModeRead::Mode(mode) = ControlMode::from_raw(number) else {
+        return failed_by_mode();
+    };
+    stop_in(timeout, mode)
 }
 
 // csp: the angle read becomes the target.

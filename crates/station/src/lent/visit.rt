@@ -78,23 +78,23 @@ fn heard_at(h: Heard) -> Visited
 fn removed_at(m: Motor, said: Checked) -> Visited
     ensures { λ r. ⌜ r ≡ spec.removedAt m said ⌝ }
 {
-    match said {
-        Checked::Passed => return leave(free_motor(), told(Checked::Passed)),
-        Checked::Refused(refusal) => return leave(m, told(Checked::Refused(refusal))),
+    if let Checked::Refused(refusal) = said {
+        return leave(m, told(Checked::Refused(refusal)));
     }
+    leave(free_motor(), told(Checked::Passed))
 }
 
 // A new motor takes the place. What is admitted has a known model.
 fn entered_at(m: Motor, id: u16, host: u16, model: ModelNamed, wait: u64, time: u64) -> Visited
     ensures { λ r. ⌜ r ≡ spec.enteredAt m id host model wait time ⌝ }
 {
-    match model {
-        ModelNamed::Known(known) => return leave(
-            motor::motor::new(id, host, known, wait, time),
-            told(Checked::Passed),
-        ),
-        ModelNamed::Unknown => return leave(m, told(Checked::Refused(Refusal::UnknownModel))),
-    }
+    let ModelNamed::Known(known) = model else {
+        return leave(m, told(Checked::Refused(Refusal::UnknownModel)));
+    };
+    leave(
+        motor::motor::new(id, host, known, wait, time),
+        told(Checked::Passed),
+    )
 }
 
 fn done_at(m: Motor, asked: Asked) -> Visited
@@ -127,10 +127,10 @@ pub(super) fn visited_at(m: Motor, asked: Asked, route: Route) -> Visited
 {
     let said = route.said;
     let call = asked.call;
-    match said {
-        Checked::Passed => return done_at(m, asked),
-        Checked::Refused(refusal) => return leave(m, refused(call, refusal)),
+    if let Checked::Refused(refusal) = said {
+        return leave(m, refused(call, refusal));
     }
+    done_at(m, asked)
 }
 
 // ---- a quiet call
@@ -155,10 +155,10 @@ pub(super) fn kept_at(s: State, asked: Asked, route: Route) -> Kept
 {
     let said = route.said;
     let call = asked.call;
-    match said {
-        Checked::Passed => return kept_heard(hear_state(s, asked.frame, time_of(call))),
-        Checked::Refused(refusal) => return keep(s, refused(call, refusal)),
+    if let Checked::Refused(refusal) = said {
+        return keep(s, refused(call, refusal));
     }
+    kept_heard(hear_state(s, asked.frame, time_of(call)))
 }
 
 // ---- a call that edits

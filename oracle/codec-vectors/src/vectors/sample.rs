@@ -1,5 +1,5 @@
 //! The sample: requests, each once, with the Rust's answers.
-use super::{ids, motion, parameters, replies, starred, status};
+use super::{ids, motion, names, parameters, replies, starred, status};
 use common::random::{Random, SEED};
 use std::collections::HashSet;
 
@@ -46,6 +46,7 @@ pub fn make() -> Sample {
     replies::add(&mut sample, &mut random);
     motion::add(&mut sample, &mut random);
     status::add(&mut sample, &mut random);
+    names::add(&mut sample);
     sample
 }
 

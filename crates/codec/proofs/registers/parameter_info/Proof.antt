@@ -1,10 +1,12 @@
 -- Right because a row that is found names its id's kind, and an id that no row has is unlisted (proofs/KindTable.antt).
 use borrow.Author.Count.{below-more}
 use borrow.Author.Needs.{needs}
-use mathlib.Core.Path.{_≡_, _∙_}
+use mathlib.Core.Path.{_≡_, ap, _∙_}
 use Prim.Native.Nat.{ℕ, _/_, _-_, _≤_, _<_}
 use native.Mathlib.Omega.{arith}
+use lib.Bits.{and-mask}
 use lib.ListN.{getD}
+use Rattle.codec.specs.Kinds.{codedAs}
 use Rattle.codec.proofs.KindTable.{rows, found, missing}
 use Rattle.codec.proofs.registers.parameter_info.Statement.{statement}
 use Rattle.codec.proofs.registers.parameter_info.Tie as tie
@@ -30,7 +32,7 @@ coded-as-requires c κs = search needs
 returns : tie.Need-returns Inv-loop μ-loop
 returns c =
     let l = c .before .before in
-    c .coded-as .ensures ∙ found (l .before .loop .i) (l .before .before .args .id) (l .loop-test .taken) (c .before .if1 .taken)
+    c .coded-as .ensures ∙ ap codedAs (and-mask (getD rows (l .before .loop .i) 0) 8) ∙ found (l .before .loop .i) (l .before .before .args .id) (l .loop-test .taken) (c .before .if1 .taken)
 
 add-i : tie.Need-add-i Inv-loop μ-loop
 add-i c = search needs

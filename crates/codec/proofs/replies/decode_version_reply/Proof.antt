@@ -1,4 +1,6 @@
 -- Right because the test is the definition's, and the parts are those of the id.
+use lib.Bits.{and-mask}
+use native.Mathlib.Omega.{arith}
 use borrow.Author.Tests.{not-true, not-false}
 use borrow.Author.Needs.{needs}
 use Rattle.codec.proofs.replies.decode_version_reply.Statement.{statement}
@@ -18,7 +20,7 @@ ext-id-parts-requires : tie.Need-ext-id-parts-requires
 ext-id-parts-requires c κs = search needs
 
 cast-t9 : tie.Need-cast-t9
-cast-t9 c = search needs
+cast-t9 c = omega (arith, and-mask (c .before .ext-id-parts .result .«extra_data») 8)
 
 array-read-t12 : tie.Need-array-read-t12
 array-read-t12 c = search needs
@@ -37,7 +39,7 @@ passed-version-requires c κs = search needs
 
 returns-2 : tie.Need-returns-2
 returns-2 c = let v = c .before .before .before .before in
-    rw (← v .is-version-reply .ensures, not-false (v .is-version-reply .result) (c .before .before .before .if1 .left), c .passed-version .ensures, c .before .before .ext-id-parts .ensures)
+    rw (← v .is-version-reply .ensures, not-false (v .is-version-reply .result) (c .before .before .before .if1 .left), c .passed-version .ensures, and-mask (c .before .before .ext-id-parts .result .«extra_data») 8, c .before .before .ext-id-parts .ensures)
 
 pub decode-version-reply-spec : {M : Type 1} → statement M
 decode-version-reply-spec =

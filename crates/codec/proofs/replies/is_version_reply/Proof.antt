@@ -16,6 +16,9 @@ returns c = let e = ap (λ (p : IdParts). p .«comm_type») (c .before .before .
 array-read-if2 : tie.Need-array-read-if2
 array-read-if2 c = search needs
 
+array-read-if2-2 : tie.Need-array-read-if2-2
+array-read-if2-2 c = search needs
+
 returns-2 : tie.Need-returns-2
 returns-2 c = let e = ap (λ (p : IdParts). p .«comm_type») (c .before .before .before .ext-id-parts .ensures) in
     rw (← e, eq-eqb _ _ (c .before .if1 .left), ne-eqb _ _ (c .if2 .taken))
@@ -23,12 +26,18 @@ returns-2 c = let e = ap (λ (p : IdParts). p .«comm_type») (c .before .before
 array-read-if3 : tie.Need-array-read-if3
 array-read-if3 c = search needs
 
+array-read-if3-2 : tie.Need-array-read-if3-2
+array-read-if3-2 c = search needs
+
 returns-3 : tie.Need-returns-3
 returns-3 c = let e = ap (λ (p : IdParts). p .«comm_type») (c .before .before .before .before .ext-id-parts .ensures) in
     rw (← e, eq-eqb _ _ (c .before .before .if1 .left), eq-eqb _ _ (c .before .if2 .left), ne-eqb _ _ (c .if3 .taken))
 
 array-read-result : tie.Need-array-read-result
 array-read-result c = search needs
+
+array-read-result-2 : tie.Need-array-read-result-2
+array-read-result-2 c = search needs
 
 returns-4 : tie.Need-returns-4
 returns-4 c = let e = ap (λ (p : IdParts). p .«comm_type») (c .before .before .before .before .ext-id-parts .ensures) in
@@ -41,8 +50,11 @@ is-version-reply-spec =
     ext-id-parts-requires
     returns
     array-read-if2
+    array-read-if2-2
     returns-2
     array-read-if3
+    array-read-if3-2
     returns-3
     array-read-result
+    array-read-result-2
     returns-4)

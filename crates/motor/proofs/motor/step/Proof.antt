@@ -15,6 +15,18 @@ use Rattle.motor.proofs.motor.step.Tie as tie
 step-said-requires : tie.Need-step-said-requires
 step-said-requires c κs = search needs
 
+enum-known-refusal : tie.Need-enum-known-refusal
+enum-known-refusal c = search needs
+
+refused-requires : tie.Need-refused-requires
+refused-requires c κs = search needs
+
+returns : tie.Need-returns
+returns c = let a = c .before .before .before .before .before .before .before .before .args in
+    step-both (a .m) (a .now) _
+    (c .refused .ensures
+    ∙ sym (ap (λ (k : Checked). stepBy k (a .m) (a .now)) (sym (c .before .before .before .before .step-said .ensures) ∙ c .before .before .refusal .given .1)))
+
 enum-told : tie.Need-enum-told
 enum-told c = search needs
 
@@ -30,14 +42,8 @@ advance-at-requires c κs = search needs
 moved-by-requires : tie.Need-moved-by-requires
 moved-by-requires c κs = search needs
 
-enum-known-refusal : tie.Need-enum-known-refusal
-enum-known-refusal c = search needs
-
-refused-requires : tie.Need-refused-requires
-refused-requires c κs = search needs
-
-returns : tie.Need-returns
-returns c = let a = c .before .before .before .before .before .before .before .before .before .before .args in
+returns-2 : tie.Need-returns-2
+returns-2 c = let a = c .before .before .before .before .before .before .before .before .before .before .args in
     let s = c .before .before in
     let state = a .m .state in
     let op = state .operation in
@@ -52,23 +58,17 @@ returns c = let a = c .before .before .before .before .before .before .before .b
     ∙ ap (λ (f : Found). advanced (sightOf state) (a .now) op f (op .phase)) (s .before .wanted-at .ensures))
     ∙ sym (ap (λ (k : Checked). stepBy k (a .m) (a .now)) passed))
 
-returns-2 : tie.Need-returns-2
-returns-2 c = let a = c .before .before .before .before .before .before .before .before .args in
-    step-both (a .m) (a .now) _
-    (c .refused .ensures
-    ∙ sym (ap (λ (k : Checked). stepBy k (a .m) (a .now)) (sym (c .before .before .before .before .step-said .ensures) ∙ c .before .before .refusal .given .1)))
-
 pub step-spec : {M : Type 1} → statement M
 step-spec =
     tie.close
     (tie.spec
     step-said-requires
+    enum-known-refusal
+    refused-requires
+    returns
     enum-told
     wanted-at-requires
     sight-of-requires
     advance-at-requires
     moved-by-requires
-    returns
-    enum-known-refusal
-    refused-requires
     returns-2)

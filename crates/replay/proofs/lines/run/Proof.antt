@@ -1,12 +1,19 @@
--- Right because the turns are counted down, so the loop ends; the buffers keep their lengths.
-use lib.ListN.{length}
+-- Right because the turns are counted down, so the loop ends; each begins with a station and kept bytes that the reads before it lead to.
+use Prim.Native.Nat.{_<_}
 use mathlib.Core.Path.{_≡_}
+use borrow.Author.Tests.{not-false}
+use native.Mathlib.Omega.{arith}
+use lib.ListN.{length, take}
 use borrow.Author.Needs.{needs}
+use Rattle.station.specs.lent.Lent.{stationOf}
+use Rattle.replay.specs.Limits.{bufferSize}
+use Rattle.replay.specs.Program.{Reached}
+use Rattle.replay.proofs.Keeping.{reached-first}
 use Rattle.replay.proofs.lines.run.Statement.{statement}
 use Rattle.replay.proofs.lines.run.Tie as tie
 
 abbrev Inv-loop : tie.InvT-loop
-Inv-loop inp₀ out₀ motors₀ kept₀ turns₀ inp out motors kept turns = (length inp ≡ length inp₀) × (length out ≡ length out₀)
+Inv-loop inp₀ out₀ motors₀ kept₀ turns₀ inp out motors kept turns = (length inp ≡ bufferSize) × (length out ≡ bufferSize) × (kept < bufferSize) × Reached (stationOf motors) (take kept inp)
 
 abbrev μ-loop : tie.MeasureT-loop
 μ-loop inp₀ out₀ motors₀ kept₀ turns₀ inp out motors kept turns = turns
@@ -15,16 +22,15 @@ new-requires : tie.Need-new-requires Inv-loop μ-loop
 new-requires c κs = search needs
 
 loop-holds : tie.Need-loop-holds Inv-loop μ-loop
-loop-holds c = search needs
+loop-holds c =
+    let a = c .before .before .before .before in
+    (a .pre .0, a .pre .1, omega arith, rw (c .before .new .ensures .0) reached-first)
 
 sub-turns : tie.Need-sub-turns Inv-loop μ-loop
 sub-turns c = search needs
 
-read-after-requires : tie.Need-read-after-requires Inv-loop μ-loop
-read-after-requires c κs = search needs
-
-finish-requires : tie.Need-finish-requires Inv-loop μ-loop
-finish-requires c κs = search needs
+take-read-requires : tie.Need-take-read-requires Inv-loop μ-loop
+take-read-requires c κs = search needs
 
 same-length : tie.Need-same-length Inv-loop μ-loop
 same-length c = search needs
@@ -34,12 +40,6 @@ same-length-2 c = search needs
 
 returns : tie.Need-returns Inv-loop μ-loop
 returns c = search needs
-
-whole-lines-requires : tie.Need-whole-lines-requires Inv-loop μ-loop
-whole-lines-requires c κs = search needs
-
-complain-requires : tie.Need-complain-requires Inv-loop μ-loop
-complain-requires c κs = search needs
 
 same-length-3 : tie.Need-same-length-3 Inv-loop μ-loop
 same-length-3 c = search needs
@@ -54,7 +54,11 @@ loop-less : tie.Need-loop-less Inv-loop μ-loop
 loop-less c = search needs
 
 loop-again : tie.Need-loop-again Inv-loop μ-loop
-loop-again c = search needs
+loop-again c =
+    let t = c .before .before .before .before .before .before .before .before .before .take-read in
+    let g = not-false (t .result .good) (search needs) in
+    let m = not-false (t .result .more) (search needs) in
+    (search needs, search needs, t .ensures .0 g m .0, t .ensures .0 g m .1)
 
 same-length-5 : tie.Need-same-length-5 Inv-loop μ-loop
 same-length-5 c = search needs
@@ -74,13 +78,10 @@ run-spec =
     new-requires
     loop-holds
     sub-turns
-    read-after-requires
-    finish-requires
+    take-read-requires
     same-length
     same-length-2
     returns
-    whole-lines-requires
-    complain-requires
     same-length-3
     same-length-4
     returns-2

@@ -1,12 +1,19 @@
--- Right because the command's place, its shape and the arguments are the definition's.
+-- Right because the command's row, its shape and the arguments are the definition's.
+use Prim.Native.Nat.{ℕ}
+use mathlib.Core.Path.{_≡_, ap, sym, _∙_}
+use mathlib.Core.List.{List}
+use lib.Seq.{length-take-le}
 use borrow.Author.Tests.{eq-eqb, ne-eqb}
+use Rattle.text.specs.Words.{wordAt}
+use Rattle.text.proofs.Reading.{to-end}
+use Rattle.session.specs.Table.{commands, shapeAt}
 use Rattle.session.specs.Commands.{started}
 use borrow.Author.Needs.{needs}
 use Rattle.session.proofs.commands.started.Statement.{statement}
 use Rattle.session.proofs.commands.started.Tie as tie
 
-slice-aggregate-place : tie.Need-slice-aggregate-place
-slice-aggregate-place c = search needs
+slice-aggregate-table : tie.Need-slice-aggregate-table
+slice-aggregate-table c = search needs
 
 word-requires : tie.Need-word-requires
 word-requires c κs = search needs
@@ -19,16 +26,25 @@ unfolding started
 returns c =
     let p1 = c .before in
     let p2 = p1 .before in
-    rw (← p2 .word .ensures, ← p1 .place .ensures, eq-eqb _ _ (c .if1 .taken))
+    rw (← p2 .word .ensures, ← p1 .place .ensures .0, eq-eqb _ _ (c .if1 .taken))
 
-slice-aggregate-word : tie.Need-slice-aggregate-word
-slice-aggregate-word c = search needs
+sub-word : tie.Need-sub-word
+sub-word c = search needs
 
-add-word : tie.Need-add-word
-add-word c = search needs
+part-word-start : tie.Need-part-word-start
+part-word-start c = search needs
+
+part-word-end : tie.Need-part-word-end
+part-word-end c = search needs
 
 word-requires-2 : tie.Need-word-requires-2
 word-requires-2 c κs = search needs
+
+slice-aggregate-word-count : tie.Need-slice-aggregate-word-count
+slice-aggregate-word-count c = sym (length-take-le _ _ (c .before .before .before .before .place .ensures .1))
+
+word-count-requires : tie.Need-word-count-requires
+word-count-requires c κs = search needs
 
 arguments-requires : tie.Need-arguments-requires
 arguments-requires c κs = search needs
@@ -53,9 +69,11 @@ returns-2 c =
     let p3 = p2 .before .before in
     let p4 = p3 .before in
     let p5 = p4 .before .before in
-    let p6 = p5 .before in
+    let p6 = p5 .before .before in
     let p7 = p6 .before in
-    rw (← p7 .word .ensures, ← p6 .place .ensures, ne-eqb _ _ (p5 .if1 .left), ← p4 .word2 .ensures, ← p3 .arguments .ensures, ← p2 .fit .ensures, p1 .enum-told .given .1) (c .start-event .ensures)
+    let p8 = p7 .before in
+    let shape : p5 .word2 .result .now ≡ shapeAt commands (p7 .place .result) = p5 .word2 .ensures ∙ ap (λ (l : List ℕ). wordAt l 1) (to-end (p7 .place .result) commands) in
+    rw (← p8 .word .ensures, ← p7 .place .ensures .0, ne-eqb _ _ (p6 .if1 .left), ← shape, ← p4 .word-count .ensures, ← p3 .arguments .ensures, ← p2 .fit .ensures, p1 .enum-told .given .1) (c .start-event .ensures)
 
 returns-3 : tie.Need-returns-3
 unfolding started
@@ -65,21 +83,26 @@ returns-3 c =
     let p3 = p2 .before .before in
     let p4 = p3 .before in
     let p5 = p4 .before .before in
-    let p6 = p5 .before in
+    let p6 = p5 .before .before in
     let p7 = p6 .before in
-    rw (← p7 .word .ensures, ← p6 .place .ensures, ne-eqb _ _ (p5 .if1 .left), ← p4 .word2 .ensures, ← p3 .arguments .ensures, ← p2 .fit .ensures, p1 .reason .given .1)
+    let p8 = p7 .before in
+    let shape : p5 .word2 .result .now ≡ shapeAt commands (p7 .place .result) = p5 .word2 .ensures ∙ ap (λ (l : List ℕ). wordAt l 1) (to-end (p7 .place .result) commands) in
+    rw (← p8 .word .ensures, ← p7 .place .ensures .0, ne-eqb _ _ (p6 .if1 .left), ← shape, ← p4 .word-count .ensures, ← p3 .arguments .ensures, ← p2 .fit .ensures, p1 .reason .given .1)
 
 pub started-spec : {M : Type 1} → statement M
 started-spec =
     tie.close
     (tie.spec
-    slice-aggregate-place
+    slice-aggregate-table
     word-requires
     place-requires
     returns
-    slice-aggregate-word
-    add-word
+    sub-word
+    part-word-start
+    part-word-end
     word-requires-2
+    slice-aggregate-word-count
+    word-count-requires
     arguments-requires
     fit-requires
     enum-told

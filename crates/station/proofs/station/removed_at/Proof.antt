@@ -9,6 +9,17 @@ use borrow.Author.Needs.{needs}
 use Rattle.station.proofs.station.removed_at.Statement.{statement}
 use Rattle.station.proofs.station.removed_at.Tie as tie
 
+enum-known-said : tie.Need-enum-known-said
+enum-known-said c = search needs
+
+tell-requires : tie.Need-tell-requires
+tell-requires c κs = search needs
+
+returns : tie.Need-returns
+returns c =
+    let a = c .before .before .before .before .args in
+    c .tell .ensures ∙ sym (ap (λ (k : Checked). removedAt k (a .st) (a .i)) (c .before .before .said .given .1))
+
 enum-told : tie.Need-enum-told
 enum-told c = search needs
 
@@ -18,36 +29,25 @@ free-motor-requires c κs = search needs
 with-motor-requires : tie.Need-with-motor-requires
 with-motor-requires c κs = search needs
 
-tell-requires : tie.Need-tell-requires
-tell-requires c κs = search needs
-
-enum-known-said : tie.Need-enum-known-said
-enum-known-said c = search needs
-
 tell-requires-2 : tie.Need-tell-requires-2
 tell-requires-2 c κs = search needs
 
-returns : tie.Need-returns
-returns c =
-    let a = c .before .before .before .before .before .args in
-    c .tell .ensures
-    ∙ ap (λ (t : Station). tell t checked.Passed) (c .before .with-motor .ensures ∙ ap (λ (m : Motor). withMotor (a .st) (a .i) m) (c .before .before .free-motor .ensures))
-    ∙ sym (ap (λ (k : Checked). removedAt k (a .st) (a .i)) (c .before .before .before .enum-told .given .1))
-
 returns-2 : tie.Need-returns-2
 returns-2 c =
-    let a = c .before .before .before .before .args in
-    c .tell2 .ensures ∙ sym (ap (λ (k : Checked). removedAt k (a .st) (a .i)) (c .before .before .said .given .1))
+    let a = c .before .before .before .before .before .args in
+    c .tell2 .ensures
+    ∙ ap (λ (t : Station). tell t checked.Passed) (c .before .with-motor .ensures ∙ ap (λ (m : Motor). withMotor (a .st) (a .i) m) (c .before .before .free-motor .ensures))
+    ∙ sym (ap (λ (k : Checked). removedAt k (a .st) (a .i)) (c .before .before .before .enum-told .given .1))
 
 pub removed-at-spec : {M : Type 1} → statement M
 removed-at-spec =
     tie.close
     (tie.spec
+    enum-known-said
+    tell-requires
+    returns
     enum-told
     free-motor-requires
     with-motor-requires
-    tell-requires
-    returns
-    enum-known-said
     tell-requires-2
     returns-2)

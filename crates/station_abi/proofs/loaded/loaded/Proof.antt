@@ -1,11 +1,15 @@
--- Right because the count rises to its end; nothing is said of the station.
+-- Right because each turn has one more reading handed in by every motor.
 use Prim.Native.Nat.{_-_, _≤_}
+use mathlib.Core.Path.{_≡_}
+use native.Mathlib.Omega.{arith}
 use borrow.Author.Needs.{needs}
+use Rattle.station_abi.specs.Loaded.{loadedTo}
+use Rattle.station_abi.proofs.Loading.{loaded-next}
 use Rattle.station_abi.proofs.loaded.loaded.Statement.{statement}
 use Rattle.station_abi.proofs.loaded.loaded.Tie as tie
 
 abbrev Inv-loop : tie.InvT-loop
-Inv-loop motors held st₀ count₀ st count = count ≤ held
+Inv-loop motors held st₀ count₀ st count = (count ≤ held) × (st ≡ loadedTo motors count)
 
 abbrev μ-loop : tie.MeasureT-loop
 μ-loop motors held st₀ count₀ st count = held - count
@@ -14,7 +18,8 @@ registered-requires : tie.Need-registered-requires Inv-loop μ-loop
 registered-requires c κs = search needs
 
 loop-holds : tie.Need-loop-holds Inv-loop μ-loop
-loop-holds c = search needs
+unfolding loadedTo
+loop-holds c = (omega arith, c .registered .ensures)
 
 add-count : tie.Need-add-count Inv-loop μ-loop
 add-count c = search needs
@@ -29,10 +34,13 @@ loop-less : tie.Need-loop-less Inv-loop μ-loop
 loop-less c = search needs
 
 loop-again : tie.Need-loop-again Inv-loop μ-loop
-loop-again c = search needs
+loop-again c = (omega arith, loaded-next _ _ _ _ _ (c .before .before .before .loop .inv .1) (c .before .last-parameter .ensures) (c .read-by-all .ensures))
 
 returns : tie.Need-returns Inv-loop μ-loop
-returns c = search needs
+returns c =
+    let inv = c .before .loop .inv in
+    let e : c .before .loop .count ≡ c .before .before .before .args .held = omega arith in
+    rw (← e) (inv .1)
 
 pub loaded-spec : {M : Type 1} → statement M
 loaded-spec =

@@ -1,17 +1,22 @@
--- Right because the count rises to its end; nothing is said of the station.
+-- Right because each turn hands in the next motor's reply.
 use Prim.Native.Nat.{_-_, _≤_}
+use mathlib.Core.Path.{_≡_, refl}
+use native.Mathlib.Omega.{arith}
 use borrow.Author.Needs.{needs}
+use Rattle.station_abi.specs.Loaded.{readByAll}
+use Rattle.station_abi.proofs.Loading.{read-next}
 use Rattle.station_abi.proofs.loaded.read_by_all.Statement.{statement}
 use Rattle.station_abi.proofs.loaded.read_by_all.Tie as tie
 
 abbrev Inv-loop : tie.InvT-loop
-Inv-loop motors parameter after₀ count₀ after count = count ≤ motors
+Inv-loop motors parameter after₀ count₀ after count = (count ≤ motors) × (after ≡ readByAll after₀ count parameter)
 
 abbrev μ-loop : tie.MeasureT-loop
 μ-loop motors parameter after₀ count₀ after count = motors - count
 
 loop-holds : tie.Need-loop-holds Inv-loop μ-loop
-loop-holds c = search needs
+unfolding readByAll
+loop-holds c = (omega arith, refl)
 
 add-count : tie.Need-add-count Inv-loop μ-loop
 add-count c = search needs
@@ -26,10 +31,13 @@ loop-less : tie.Need-loop-less Inv-loop μ-loop
 loop-less c = search needs
 
 loop-again : tie.Need-loop-again Inv-loop μ-loop
-loop-again c = search needs
+loop-again c = (omega arith, read-next _ _ _ _ _ _ (c .before .before .before .before .loop .inv .1) (c .before .before .read-reply .ensures) (c .before .frame .ensures .0))
 
 returns : tie.Need-returns Inv-loop μ-loop
-returns c = search needs
+returns c =
+    let inv = c .before .loop .inv in
+    let e : c .before .loop .count ≡ c .before .before .args .motors = omega arith in
+    rw (← e) (inv .1)
 
 pub read-by-all-spec : {M : Type 1} → statement M
 read-by-all-spec =

@@ -1,4 +1,4 @@
--- Right because a byte is stored where there is room, and nothing is promised where there is none.
+-- Right because one byte is stored where there is room, and none where there is none.
 use native.Mathlib.Omega.{arith}
 use borrow.Author.Needs.{needs}
 use Rattle.text.proofs.Putting.{put-one, put-none}

@@ -20,7 +20,13 @@ value-reply-requires : tie.Need-value-reply-requires
 value-reply-requires c κs = search needs
 
 returns-3 : tie.Need-returns-3
-returns-3 c = rw (le-ltb _ _ (c .before .before .if1 .left), le-ltb _ _ (c .before .if2 .left)) (c .value-reply .ensures)
+returns-3 c = rw (le-ltb _ _ (c .before .before .before .if1 .left), le-ltb _ _ (c .before .before .if2 .left), lt-ltb _ _ (c .before .if3 .taken)) (c .value-reply .ensures)
+
+name-reply-requires : tie.Need-name-reply-requires
+name-reply-requires c κs = search needs
+
+returns-4 : tie.Need-returns-4
+returns-4 c = rw (le-ltb _ _ (c .before .before .before .if1 .left), le-ltb _ _ (c .before .before .if2 .left), le-ltb _ _ (c .before .if3 .left)) (c .name-reply .ensures)
 
 pub reply-spec : {M : Type 1} → statement M
 reply-spec =
@@ -31,4 +37,6 @@ reply-spec =
     frame-reply-requires
     returns-2
     value-reply-requires
-    returns-3)
+    returns-3
+    name-reply-requires
+    returns-4)

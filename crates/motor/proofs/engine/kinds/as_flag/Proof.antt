@@ -35,10 +35,10 @@ failed-by-kind-requires : tie.Need-failed-by-kind-requires
 failed-by-kind-requires c κs = search needs
 
 returns : tie.Need-returns
-returns c = rw (c .before .reading .given .1)
+returns c = rw (another _ (c .before .match .keys2)) (c .failed-by-kind .ensures)
 
 returns-2 : tie.Need-returns-2
-returns-2 c = rw (another _ (c .before .match .keys2)) (c .failed-by-kind .ensures)
+returns-2 c = rw (c .before .reading .given .1)
 
 pub as-flag-spec : {M : Type 1} → statement M
 as-flag-spec =

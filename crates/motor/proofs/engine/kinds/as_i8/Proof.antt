@@ -17,7 +17,7 @@ failed-by-kind-requires : tie.Need-failed-by-kind-requires
 failed-by-kind-requires c κs = search needs
 
 returns : tie.Need-returns
-returns c = search needs
+returns c = rw (← c .before .before .before .signed-in .ensures, c .before .enum-told .given .1) (c .failed-by-kind .ensures)
 
 returns-2 : tie.Need-returns-2
 returns-2 c = rw (← c .before .before .before .signed-in .ensures, c .before .number .given .1, back _ (c .known-told .given .0 .1))

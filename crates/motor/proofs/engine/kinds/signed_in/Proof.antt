@@ -34,10 +34,10 @@ enum-known-reading : tie.Need-enum-known-reading
 enum-known-reading c = search needs
 
 returns : tie.Need-returns
-returns c = rw (c .before .reading .given .1, back _ (c .known-told .given .0 .1))
+returns c = rw (another _ (c .match .keys2))
 
 returns-2 : tie.Need-returns-2
-returns-2 c = rw (another _ (c .match .keys2))
+returns-2 c = rw (c .before .reading .given .1, back _ (c .known-told .given .0 .1))
 
 pub signed-in-spec : {M : Type 1} → statement M
 signed-in-spec = tie.close (tie.spec enum-known-reading returns returns-2)

@@ -9,9 +9,6 @@ next-host-requires c κs = search needs
 enum-known-host : tie.Need-enum-known-host
 enum-known-host c = search needs
 
-tried-requires : tie.Need-tried-requires
-tried-requires c κs = search needs
-
 enum-told : tie.Need-enum-told
 enum-told c = search needs
 
@@ -22,10 +19,13 @@ entered-requires : tie.Need-entered-requires
 entered-requires c κs = search needs
 
 returns : tie.Need-returns
-returns c = rw (← c .before .before .before .before .next-host .ensures, c .before .before .host .given .1) (c .tried .ensures)
+returns c = rw (← c .before .before .before .before .next-host .ensures, c .before .before .enum-told .given .1, ← c .before .windows-gone .ensures) (c .entered .ensures)
+
+tried-requires : tie.Need-tried-requires
+tried-requires c κs = search needs
 
 returns-2 : tie.Need-returns-2
-returns-2 c = rw (← c .before .before .before .before .next-host .ensures, c .before .before .enum-told .given .1, ← c .before .windows-gone .ensures) (c .entered .ensures)
+returns-2 c = rw (← c .before .before .before .before .next-host .ensures, c .before .before .host .given .1) (c .tried .ensures)
 
 pub retried-spec : {M : Type 1} → statement M
 retried-spec =
@@ -33,9 +33,9 @@ retried-spec =
     (tie.spec
     next-host-requires
     enum-known-host
-    tried-requires
     enum-told
     windows-gone-requires
     entered-requires
     returns
+    tried-requires
     returns-2)

@@ -9,9 +9,6 @@ encode-parameter-value-requires c κs = search needs
 enum-known-raw : tie.Need-enum-known-raw
 enum-known-raw c = search needs
 
-write-raw-requires : tie.Need-write-raw-requires
-write-raw-requires c κs = search needs
-
 enum-known-refusal : tie.Need-enum-known-refusal
 enum-known-refusal c = search needs
 
@@ -19,10 +16,13 @@ ended-requires : tie.Need-ended-requires
 ended-requires c κs = search needs
 
 returns : tie.Need-returns
-returns c = rw (← c .before .before .before .before .encode-parameter-value .ensures, c .before .before .raw .given .1) (c .write-raw .ensures)
+returns c = rw (← c .before .before .before .before .encode-parameter-value .ensures, c .before .before .refusal .given .1) (c .ended .ensures)
+
+write-raw-requires : tie.Need-write-raw-requires
+write-raw-requires c κs = search needs
 
 returns-2 : tie.Need-returns-2
-returns-2 c = rw (← c .before .before .before .before .encode-parameter-value .ensures, c .before .before .refusal .given .1) (c .ended .ensures)
+returns-2 c = rw (← c .before .before .before .before .encode-parameter-value .ensures, c .before .before .raw .given .1) (c .write-raw .ensures)
 
 pub written-spec : {M : Type 1} → statement M
 written-spec =
@@ -30,8 +30,8 @@ written-spec =
     (tie.spec
     encode-parameter-value-requires
     enum-known-raw
-    write-raw-requires
-    returns
     enum-known-refusal
     ended-requires
+    returns
+    write-raw-requires
     returns-2)

@@ -16,7 +16,7 @@ failed-by-kind-requires : tie.Need-failed-by-kind-requires
 failed-by-kind-requires c κs = search needs
 
 returns : tie.Need-returns
-returns c = search needs
+returns c = rw (← c .before .before .before .float-in .ensures, c .before .enum-told .given .1) (c .failed-by-kind .ensures)
 
 write-float-requires : tie.Need-write-float-requires
 write-float-requires c κs = search needs

@@ -4,12 +4,6 @@ use borrow.Author.Needs.{needs}
 use Rattle.station.proofs.lent.visit.visited_at.Statement.{statement}
 use Rattle.station.proofs.lent.visit.visited_at.Tie as tie
 
-enum-told : tie.Need-enum-told
-enum-told c = search needs
-
-done-at-requires : tie.Need-done-at-requires
-done-at-requires c κs = search needs
-
 enum-known-said : tie.Need-enum-known-said
 enum-known-said c = search needs
 
@@ -21,20 +15,26 @@ leave-requires c κs = search needs
 
 returns : tie.Need-returns
 unfolding visitedAt
-returns c = rw (c .before .enum-told .given .1) (c .done-at .ensures)
+returns c = rw (c .before .before .before .said .given .1, ← c .before .refused .ensures) (c .leave .ensures)
+
+enum-told : tie.Need-enum-told
+enum-told c = search needs
+
+done-at-requires : tie.Need-done-at-requires
+done-at-requires c κs = search needs
 
 returns-2 : tie.Need-returns-2
 unfolding visitedAt
-returns-2 c = rw (c .before .before .before .said .given .1, ← c .before .refused .ensures) (c .leave .ensures)
+returns-2 c = rw (c .before .enum-told .given .1) (c .done-at .ensures)
 
 pub visited-at-spec : {M : Type 1} → statement M
 visited-at-spec =
     tie.close
     (tie.spec
-    enum-told
-    done-at-requires
-    returns
     enum-known-said
     refused-requires
     leave-requires
+    returns
+    enum-told
+    done-at-requires
     returns-2)

@@ -1,0 +1,80 @@
+-- The whole program: what is answered to the bytes of an input, in one piece and as it is read. Definitions only.
+use Prim.Native.Nat.{ℕ}
+use mathlib.Core.Path.{_≡_}
+use mathlib.Core.Bool.{cond}
+use mathlib.Core.List.{List, [], _∷_, _++_}
+use lib.Dec.{eqb, leb}
+use lib.ListN.{length, take, drop}
+use Rattle.session.specs.declared.event.Reason.the-variants as reason
+use Rattle.station.specs.declared.station.Station.{Station}
+use Rattle.station.specs.Stations.{newStation}
+use Rattle.replay.specs.Limits.{bufferSize, keptBytes}
+use Rattle.replay.specs.Reasons.{errorText}
+use Rattle.replay.specs.Events.{stationAfterLine, textAfterLine}
+
+-- what was heard: the station, the bytes of a line whose LF hasn't come, and all that was answered
+pub record HeardSoFar : Type 0 where
+  pub station : Station
+  pub line : List ℕ
+  pub text : List ℕ
+
+abbrev pub heard : Station → List ℕ → List ℕ → HeardSoFar
+heard st line text = record { station = st; line = line; text = text }
+
+-- a byte: an LF ends the line, which is answered by the station that the last one left
+unfoldable pub hear : HeardSoFar → ℕ → HeardSoFar
+hear s b =
+    cond (eqb b 10)
+    (heard (stationAfterLine (s .station) (s .line)) [] (s .text ++ textAfterLine (s .station) (s .line)))
+    (heard (s .station) (s .line ++ (b ∷ [])) (s .text))
+
+-- bytes in their order
+abbrev pub hearAll : HeardSoFar → List ℕ → HeardSoFar
+hearAll s [] = s
+hearAll s (b ∷ bytes) = hearAll (hear s b) bytes
+
+-- the end of the input: half a line, of so many bytes, runs nothing
+unfoldable pub tornText : ℕ → List ℕ
+tornText kept = cond (eqb kept 0) [] (errorText reason.TornLine)
+
+abbrev pub answered : HeardSoFar → List ℕ
+answered s = s .text ++ tornText (length (s .line))
+
+-- the output of an input
+abbrev pub program : List ℕ → List ℕ
+program bytes = answered (hearAll (heard newStation [] []) bytes)
+
+-- ---- the same, as it is read
+
+-- what is kept of a line that isn't whole: of one that fills the buffer the first bytes, which are too many already
+unfoldable pub keptOf : List ℕ → List ℕ
+keptOf line = cond (leb bufferSize (length line)) (take keptBytes line) line
+
+-- so many bytes of a buffer, from a place on, moved to its front
+abbrev pub moveDown : List ℕ → ℕ → ℕ → List ℕ
+moveDown l from count = take count (drop from l) ++ drop count l
+
+-- one read: its bytes are heard after what was kept
+abbrev pub hearPiece : HeardSoFar → List ℕ → HeardSoFar
+hearPiece s bytes = heard (hearAll s bytes .station) (keptOf (hearAll s bytes .line)) (hearAll s bytes .text)
+
+abbrev pub hearPieces : HeardSoFar → List (List ℕ) → HeardSoFar
+hearPieces s [] = s
+hearPieces s (bytes ∷ reads) = hearPieces (hearPiece s bytes) reads
+
+-- the bytes of all reads
+abbrev pub joined : List (List ℕ) → List ℕ
+joined [] = []
+joined (bytes ∷ reads) = bytes ++ joined reads
+
+-- the output of an input that is read in pieces
+abbrev pub programOf : List (List ℕ) → List ℕ
+programOf reads = answered (hearPieces (heard newStation [] []) reads)
+
+-- ---- what the loop promises
+
+-- a station, and the bytes kept of a line, that some reads lead to
+pub record Reached (st : Station) (line : List ℕ) : Type 0 where
+  pub reads : List (List ℕ)
+  pub station-is : hearPieces (heard newStation [] []) reads .station ≡ st
+  pub line-is : hearPieces (heard newStation [] []) reads .line ≡ line

@@ -1,0 +1,285 @@
+-- The bounds of an operation on the station: to the motor m a list of calls is a list of its own events, every other call being none of
+-- them (demand 3, call by call), so the motor's theorem bounds it. Assumes nothing.
+use Prim.Native.Nat.{ℕ, _+_, _≤_}
+use mathlib.Core.Path.{_≡_, refl, sym, ap, _∙_, subst}
+use mathlib.Core.Bool.{Bool, true, false, true≢false, cond, not, _&&_}
+use mathlib.Core.List.{List, [], _∷_, _++_}
+use mathlib.Core.Option.{Option, none, some, Option·none-ne-some, Option·some-injective}
+use native.Mathlib.Omega.{arith}
+use lib.Dec.{eqb}
+use Rattle.codec.specs.declared.bus.CanFrame.{CanFrame}
+use Rattle.codec.specs.declared.error.Checked.{Checked}
+use Rattle.codec.specs.declared.error.Checked.the-variants as checked
+use Rattle.codec.specs.declared.model.Model.{Model}
+use Rattle.codec.specs.declared.model.ModelNamed.{ModelNamed}
+use Rattle.codec.specs.declared.model.ModelNamed.the-variants as named
+use Rattle.motor.specs.declared.engine.command.Command.{Command}
+use Rattle.motor.specs.Bounds.{LoneEvent, start as started, step as stepped, frame as heard, other as none-of-it, afterEvent as then, hasFrame, sends, isDue, once, count, mostFramesOf, afterEvents, Given}
+use Rattle.motor.specs.Calls.{isIdle}
+use Rattle.motor.specs.Limits.{mostDueSteps}
+use Rattle.motor.specs.Lone.{Lone, loneNew, loneStart, loneStep, loneRemoval}
+use Rattle.motor.proofs.Bounds.{bounds}
+use Rattle.station.specs.declared.call.Answer.{Answer}
+use Rattle.station.specs.declared.call.Asked.{Asked}
+use Rattle.station.specs.declared.call.Call.{Call}
+use Rattle.station.specs.declared.call.Call.the-variants as call
+use Rattle.station.specs.Calls.{start, step, Reply, refused}
+use Rattle.station.specs.Station.{Place, empty, held, full, Distinct, movesTo, hearsTo, leaves, loneBy, lone, route, admission, enter, admit, sourceOf, stationBy, stationCall}
+use Rattle.station.specs.History.{mineBy, mine, after}
+use Rattle.station.specs.Demand2.{unrefused}
+use Rattle.station.specs.StationBounds.{runsIn, sendsIn, dueIn, sendsTo, dueTo, tally, DueOf, StationBounds}
+use Rattle.station.proofs.EchoAtStation.{began}
+use Rattle.station.proofs.Places.{same-id, own-id, held-add, distinct-free}
+use Rattle.station.proofs.Steps.{other, own-call, accepts-source, call-distinct, passes}
+use Rattle.station.proofs.TwoRuns.{after-distinct}
+
+-- ---- a call of m's as an event of the lone motor
+
+eventBy : Call → CanFrame → LoneEvent
+eventBy (call.Register m host model wait time) f = none-of-it
+eventBy (call.Start m c now) f = started c now
+eventBy (call.Step m now) f = stepped now
+eventBy (call.Frame now) f = heard f now
+eventBy (call.Look m) f = none-of-it
+eventBy (call.Remove m now) f = none-of-it
+
+-- what is held after it, if the motor isn't removed
+then-holds : (h k : Lone) (c : Call) (f : CanFrame) → (loneBy h c f) .1 ≡ some k → then h (eventBy c f) ≡ k
+unfolding eventBy loneBy movesTo hearsTo leaves
+then-holds h k (call.Register m host model wait time) f e = Option·some-injective h k e
+then-holds h k (call.Start m c now) f e = Option·some-injective _ k e
+then-holds h k (call.Step m now) f e = Option·some-injective _ k e
+then-holds h k (call.Frame now) f e = Option·some-injective _ k e
+then-holds h k (call.Look m) f e = Option·some-injective h k e
+then-holds h k (call.Remove m now) f e = go (loneRemoval h now) e
+  where
+    go : (x : Checked) → leaves h x ≡ some k → h ≡ k
+    go checked.Passed e = absurd (Option·none-ne-some k e)
+    go (checked.Refused r) e = Option·some-injective h k e
+
+event-sends : (h : Lone) (c : Call) (f : CanFrame) → sendsIn ((loneBy h c f) .0 .replied .answer) ≡ sends h (eventBy c f)
+unfolding eventBy loneBy movesTo hearsTo
+event-sends h (call.Register m host model wait time) f = refl
+event-sends h (call.Start m c now) f = refl
+event-sends h (call.Step m now) f = refl
+event-sends h (call.Frame now) f = refl
+event-sends h (call.Look m) f = refl
+event-sends h (call.Remove m now) f = refl
+
+event-due : (h : Lone) (c : Call) (f : CanFrame) → dueIn (some h) c ≡ isDue h (eventBy c f)
+unfolding eventBy
+event-due h (call.Register m host model wait time) f = refl
+event-due h (call.Start m c now) f = refl
+event-due h (call.Step m now) f = refl
+event-due h (call.Frame now) f = refl
+event-due h (call.Look m) f = refl
+event-due h (call.Remove m now) f = refl
+
+-- ---- a list of calls as a list of events
+
+-- one more of either: as long as the operation runs, no more is counted there than here
+more : (idle x y : Bool) (a b : ℕ) → (x ≡ true → y ≡ true) → a ≤ b → cond (not idle) (once x + a) 0 ≤ cond idle 0 (once y + b)
+more true x y a b e l = omega arith
+more false true true a b e l = omega arith
+more false true false a b e l = absurd (true≢false (sym (e refl)))
+more false false true a b e l = omega arith
+more false false false a b e l = omega arith
+
+module _ (m : ℕ) (test : List Place → Asked → Bool) (same : Lone → LoneEvent → Bool)
+    (alike : (s : List Place) (h : Lone) (a : Asked) → Distinct s → held s m ≡ some h → mine m a ≡ true → test s a ≡ same h (eventBy (a .call) (a .frame))) where
+  gone : (s : List Place) (cs : List Asked) → held s m ≡ none → tally m test s cs ≡ 0
+  gone s [] e = refl
+  gone s (a ∷ cs) e = rw e
+
+  as-events : (cs : List Asked) (s : List Place) (h : Lone) → Distinct s → held s m ≡ some h
+      → (es : List LoneEvent) × (tally m test s cs ≤ count same h es)
+  as-events [] s h d e = ([], omega arith)
+  as-events (a ∷ cs) s h d e = go (mine m a) refl (as-events cs)
+    where
+      s′ : List Place
+      s′ = (stationCall s a) .1
+
+      d′ : Distinct s′
+      d′ = call-distinct s a d
+
+      IH : Type 0
+      IH = (s : List Place) (h : Lone) → Distinct s → held s m ≡ some h → (es : List LoneEvent) × (tally m test s cs ≤ count same h es)
+
+      idle : Bool
+      idle = isIdle (h .state .operation .phase)
+
+      ev : LoneEvent
+      ev = eventBy (a .call) (a .frame)
+
+      Ends : Type 0
+      Ends = (es : List LoneEvent) × (cond (not idle) (once (test s a) + tally m test s′ cs) 0 ≤ count same h es)
+
+      own : mine m a ≡ true → IH → (o : Option Lone) → (lone h a) .1 ≡ o → held s′ m ≡ o → Ends
+      own p ih none q r =
+          (ev ∷ [], more idle (test s a) (same h ev) (tally m test s′ cs) 0 (λ t. sym (alike s h a d e p) ∙ t) (omega (arith, gone s′ cs r)))
+      own p ih (some k) q r =
+          let x = ih s′ k d′ r in (
+            ev ∷ x .0,
+            more idle (test s a) (same h ev) (tally m test s′ cs) (count same (then h ev) (x .0)) (λ t. sym (alike s h a d e p) ∙ t)
+                (subst (λ (j : Lone). tally m test s′ cs ≤ count same j (x .0)) (sym (then-holds h k (a .call) (a .frame) q)) (x .1)),
+          )
+
+      go : (b : Bool) → mine m a ≡ b → IH → (es : List LoneEvent) × (tally m test s (a ∷ cs) ≤ count same h es)
+      go true p ih = rw (e, p) (own p ih ((lone h a) .1) refl (own-call s m h a d e p .1))
+      go false p ih =
+          let x = ih s′ h d′ (other s m a p ∙ e) in
+          rw (e, p) (none-of-it ∷ x .0, more idle false (same h none-of-it) (tally m test s′ cs) (count same h (x .0)) (λ t. absurd (true≢false (sym t))) (x .1))
+
+-- ---- the frames and the due steps
+
+module _ (before : List Asked) (m : ℕ) (c : Command) (now : ℕ) (later : List Asked) where
+  abbrev s : List Place
+  s = after empty before
+
+  abbrev a : Reply × List Place
+  a = stationCall s (start m c now)
+
+  s-distinct : Distinct s
+  unfolding empty
+  s-distinct = after-distinct empty before (distinct-free 8)
+
+  is-mine : mine m (start m c now) ≡ true
+  unfolding mineBy
+  is-mine = own-id m
+
+  sends-alike : (s : List Place) (h : Lone) (a : Asked) → Distinct s → held s m ≡ some h → mine m a ≡ true
+      → sendsTo m s a ≡ sends h (eventBy (a .call) (a .frame))
+  sends-alike s h a d e p = ap (λ (r : Reply). sendsIn (r .replied .answer)) (own-call s m h a d e p .0) ∙ event-sends h (a .call) (a .frame)
+
+  due-alike : (s : List Place) (h : Lone) (a : Asked) → Distinct s → held s m ≡ some h → mine m a ≡ true
+      → dueTo m s a ≡ isDue h (eventBy (a .call) (a .frame))
+  due-alike s h a d e p = ap (λ (o : Option Lone). dueIn o (a .call)) e ∙ event-due h (a .call) (a .frame)
+
+  frames-within : unrefused (a .0) ≡ true → once (sendsIn (a .0 .replied .answer)) + tally m (sendsTo m) (a .1) later ≤ mostFramesOf c
+  unfolding loneBy movesTo eventBy
+  frames-within u =
+      let b = began s m c now u in
+      let l = own-call s m (b .by) (start m c now) s-distinct (b .was) is-mine in
+      let x = as-events m (sendsTo m) sends sends-alike later (a .1) (loneStart (b .by) c now .lone) (call-distinct s (start m c now) s-distinct) (l .1) in
+      let q = sends-alike s (b .by) (start m c now) s-distinct (b .was) is-mine in
+      rw q (omega (arith, x .1, bounds .frames (b .by) c now (x .0) (b .passed)))
+
+  steps-within : unrefused (a .0) ≡ true → tally m (dueTo m) (a .1) later ≤ mostDueSteps
+  unfolding loneBy movesTo
+  steps-within u =
+      let b = began s m c now u in
+      let l = own-call s m (b .by) (start m c now) s-distinct (b .was) is-mine in
+      let x = as-events m (dueTo m) isDue due-alike later (a .1) (loneStart (b .by) c now .lone) (call-distinct s (start m c now) s-distinct) (l .1) in
+      omega (arith, x .1, bounds .steps (b .by) c now (x .0) (b .passed))
+
+-- ---- what is held for m came from a new motor, by its own events
+
+record Made (h : Lone) : Type 0 where
+  id : ℕ
+  host : ℕ
+  model : Model
+  wait : ℕ
+  since : ℕ
+  events : List LoneEvent
+  is : afterEvents (loneNew id host model wait since) events ≡ h
+
+one-more : (l : Lone) (es : List LoneEvent) (e : LoneEvent) → afterEvents l (es ++ (e ∷ [])) ≡ then (afterEvents l es) e
+one-more l [] e = refl
+one-more l (x ∷ es) e = one-more (then l x) es e
+
+made-on : (k h : Lone) (e : LoneEvent) → then k e ≡ h → Made k → Made h
+made-on k h e q x =
+    record {
+      id = x .id;
+      host = x .host;
+      model = x .model;
+      wait = x .wait;
+      since = x .since;
+      events = x .events ++ (e ∷ []);
+      is = one-more _ (x .events) e ∙ ap (λ (l : Lone). then l e) (x .is) ∙ q;
+    }
+
+module _ (m : ℕ) (s : List Place) (h : Lone) where
+  -- where m isn't registered, only a registration holds something for it
+  by-none : (i : ℕ) (r : Reply) (visit : Lone → Reply × Option Lone) → i ≡ m → held s m ≡ none → held ((route s i (held s i) r visit) .1) m ≡ some h → Made h
+  unfolding route
+  by-none i r visit q e x = absurd (Option·none-ne-some h (sym e ∙ (rw (q, e) at x)))
+
+  entered : (i host : ℕ) (model : ModelNamed) (wait time : ℕ) → i ≡ m → held s m ≡ none → full s ≡ false
+      → held ((enter s i host model wait time) .1) m ≡ some h → Made h
+  unfolding enter
+  entered i host (named.Known model) wait time q e f x =
+      record {
+        id = m;
+        host = host;
+        model = model;
+        wait = wait;
+        since = time;
+        events = [];
+        is = Option·some-injective _ h (sym (held-add s m (loneNew m host model wait time) e f) ∙ (rw q at x));
+      }
+  entered i host named.Unknown wait time q e f x = absurd (Option·none-ne-some h (sym e ∙ x))
+
+  fresh : (c : Call) (f : CanFrame) → mineBy m c f ≡ true → held s m ≡ none → held ((stationBy s c f) .1) m ≡ some h → Made h
+  unfolding mineBy stationBy admit
+  fresh (call.Register i host model wait time) f p e x = go (admission s i host model wait time) refl x
+    where
+      go : (k : Checked) → admission s i host model wait time ≡ k → held ((admit k s i host model wait time) .1) m ≡ some h → Made h
+      go checked.Passed q x = entered i host model wait time (same-id i m p) e (passes s i host model wait time q .1) x
+      go (checked.Refused r) q x = absurd (Option·none-ne-some h (sym e ∙ x))
+  fresh (call.Start i c now) f p e x = by-none i _ _ (same-id i m p) e x
+  fresh (call.Step i now) f p e x = by-none i _ _ (same-id i m p) e x
+  fresh (call.Frame now) f p e x =
+      let b = accepts-source m f p in
+      by-none (sourceOf f) _ _ (b .0) e (rw (b .1) at x)
+  fresh (call.Look i) f p e x = by-none i _ _ (same-id i m p) e x
+  fresh (call.Remove i now) f p e x = by-none i _ _ (same-id i m p) e x
+
+made-after : (m : ℕ) (cs : List Asked) (s : List Place) → Distinct s → ((h : Lone) → held s m ≡ some h → Made h)
+    → (h : Lone) → held (after s cs) m ≡ some h → Made h
+unfolding after
+made-after m [] s d x h e = x h e
+made-after m (a ∷ cs) s d x h e = made-after m cs ((stationCall s a) .1) (call-distinct s a d) (λ k. one k (mine m a) refl) h e
+  where
+    by-held : (k : Lone) → mine m a ≡ true → (o : Option Lone) → held s m ≡ o → held ((stationCall s a) .1) m ≡ some k → Made k
+    by-held k p none q r = fresh m s k (a .call) (a .frame) p q r
+    by-held k p (some l) q r =
+        made-on l k (eventBy (a .call) (a .frame)) (then-holds l k (a .call) (a .frame) (sym (own-call s m l a d q p .1) ∙ r)) (x l q)
+
+    one : (k : Lone) (b : Bool) → mine m a ≡ b → held ((stationCall s a) .1) m ≡ some k → Made k
+    one k true p r = by-held k p (held s m) refl r
+    one k false p r = x k (sym (other s m a p) ∙ r)
+
+made : (before : List Asked) (m : ℕ) (h : Lone) → held (after empty before) m ≡ some h → Made h
+unfolding empty held
+made before m h = made-after m before empty (distinct-free 8) (λ k e. absurd (Option·none-ne-some k e)) h
+
+-- ---- due times
+
+module _ (before : List Asked) (m : ℕ) where
+  due-started : (c : Command) (now : ℕ) → DueOf m now (stationCall (after empty before) (start m c now))
+  unfolding stationBy route refused loneBy movesTo empty mineBy
+  due-started c now = go (held (after empty before) m) refl
+    where
+      go : (o : Option Lone) → held (after empty before) m ≡ o → DueOf m now (stationCall (after empty before) (start m c now))
+      go none e = rw (e, e) tt
+      go (some h) e =
+          let d = after-distinct empty before (distinct-free 8) in
+          let l = own-call (after empty before) m h (start m c now) d e (own-id m) in
+          let x = made before m h e in
+          rw (l .0, l .1) (subst (λ (k : Lone). Given now (loneStart k c now)) (x .is) (bounds .started (x .id) (x .host) (x .model) (x .wait) (x .since) (x .events) c now))
+
+  due-stepped : (now : ℕ) → DueOf m now (stationCall (after empty before) (step m now))
+  unfolding stationBy route refused loneBy movesTo empty mineBy
+  due-stepped now = go (held (after empty before) m) refl
+    where
+      go : (o : Option Lone) → held (after empty before) m ≡ o → DueOf m now (stationCall (after empty before) (step m now))
+      go none e = rw (e, e) tt
+      go (some h) e =
+          let d = after-distinct empty before (distinct-free 8) in
+          let l = own-call (after empty before) m h (step m now) d e (own-id m) in
+          let x = made before m h e in
+          rw (l .0, l .1) (subst (λ (k : Lone). Given now (loneStep k now)) (x .is) (bounds .stepped (x .id) (x .host) (x .model) (x .wait) (x .since) (x .events) now))
+
+pub station-bounds : StationBounds
+station-bounds = record { frames = frames-within; limits = bounds .limits; steps = steps-within; started = due-started; stepped = due-stepped }
