@@ -115,7 +115,7 @@ pub(crate) fn is_record(n: u16) -> bool
     true
 }
 
-// The place of id. The readings are walked here and nowhere else, since each function that takes them copies them.
+// The place of id. Here alone the chain is searched for an id, since each function that takes the readings copies them.
 pub(crate) fn site_of(rs: Readings, id: u16) -> Site
     ensures { λ r. ⌜ (r ≡ siteOf rs id) × (r .before ≤ mostReadings) ⌝ }
 {

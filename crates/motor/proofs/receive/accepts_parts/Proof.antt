@@ -1,6 +1,9 @@
 -- Right because each test is the definition's, in its order.
 use borrow.Author.Tests.{not-true, not-false}
+use Prim.Native.Nat.{ℕ}
+use mathlib.Core.Path.{ap}
 use lib.Bits.{and-mask}
+use lib.Dec.{eqb}
 use borrow.Author.Needs.{needs}
 use Rattle.motor.proofs.receive.accepts_parts.Statement.{statement}
 use Rattle.motor.proofs.receive.accepts_parts.Tie as tie
@@ -17,7 +20,9 @@ returns-2 c = let a = c .before in
 
 returns-3 : tie.Need-returns-3
 returns-3 c = let a = c .before .before in
-    rw (not-false (a .before .before .args .extended) (a .before .if1 .left), ← a .accepts-type .ensures, not-false (a .accepts-type .result) (c .before .if2 .left), and-mask _ 8)
+    let x = a .before .before .args in
+    rw (not-false (x .extended) (a .before .if1 .left), ← a .accepts-type .ensures, not-false (a .accepts-type .result) (c .before .if2 .left))
+    (ap (λ (n : ℕ). eqb n (x .motor-id)) (and-mask (x .parts .«extra_data») 8))
 
 pub accepts-parts-spec : {M : Type 1} → statement M
 accepts-parts-spec = tie.close (tie.spec returns accepts-type-requires returns-2 returns-3)

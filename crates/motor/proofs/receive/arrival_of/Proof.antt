@@ -1,7 +1,11 @@
 -- Right because the parts are those of the frame's id.
+use Prim.Native.Nat.{ℕ}
+use mathlib.Core.Path.{ap}
+use lib.Dec.{eqb}
+use Rattle.motor.specs.declared.receive.Arrival.{Arrival}
 use borrow.Author.Needs.{needs}
 use lib.Bits.{and-mask}
-use Rattle.motor.specs.Receive.{acceptsFrame, isRead, arrivalOf}
+use Rattle.motor.specs.Receive.{partsOf, acceptsParts, acceptsFrame, isRead, arrivalOf}
 use Rattle.motor.proofs.receive.arrival_of.Statement.{statement}
 use Rattle.motor.proofs.receive.arrival_of.Tie as tie
 
@@ -16,7 +20,10 @@ is-read-requires c κs = search needs
 
 returns : tie.Need-returns
 unfolding arrivalOf acceptsFrame isRead
-returns c = rw (c .is-read .ensures, c .before .accepts-parts .ensures, and-mask (c .before .before .before .ext-id-parts .result .«extra_data») 8, c .before .before .before .ext-id-parts .ensures)
+returns c = let e = c .before .before .before in
+    let f = e .before .args .frame in
+    rw (c .is-read .ensures, c .before .accepts-parts .ensures, e .ext-id-parts .ensures)
+    (ap {B = Arrival} (λ (n : ℕ). record { source = n; accepted = acceptsParts n (f .«is_extended») (partsOf f); read = eqb (partsOf f .«comm_type») 17 }) (and-mask (partsOf f .«extra_data») 8))
 
 pub arrival-of-spec : {M : Type 1} → statement M
 arrival-of-spec =
