@@ -1,7 +1,7 @@
 -- Every answer has at most 4096 bytes. Assumes nothing.
 use Prim.Native.Nat.{ℕ, _≤_}
 use mathlib.Core.Bool.{Bool, cond}
-use mathlib.Core.List.{List}
+use mathlib.Core.List.{List, []}
 use native.Mathlib.Omega.{arith}
 use lib.Dec.{eqb}
 use lib.ListN.{length}
@@ -26,6 +26,7 @@ use Rattle.text.specs.Ascii.{ascii}
 use Rattle.text.proofs.TextLengths.{Short, words, none, wider, _&_, either, decimal-short}
 use Rattle.replay.specs.Limits.{longestAnswer}
 use Rattle.replay.specs.Reasons.{wantedText, reasonText, errorText}
+use Rattle.replay.specs.Program.{tornText}
 use Rattle.replay.specs.Events.{answerText, repliedText, asked, calledText, callText, otherText, textAfter}
 
 -- these bytes, which are at most 100
@@ -101,3 +102,10 @@ answer-fits st (event.Other o) f = other-fits o
 
 pub fits : (st : Station) (e : Event) (f : CanFrame) → length (textAfter st e f) ≤ longestAnswer
 fits st e f = answer-fits st e f .fits
+
+pub torn-fits : (kept : ℕ) → length (tornText kept) ≤ longestAnswer
+unfolding tornText
+torn-fits kept = torn-short .fits
+  where
+    torn-short : Short (cond (eqb kept 0) [] (errorText reason.TornLine)) longestAnswer
+    torn-short = either (eqb kept 0) none (wider (error-fits reason.TornLine) (omega arith))

@@ -11,12 +11,7 @@ use lib.Seq.{take-all, take-take}
 use Rattle.bytes.specs.Bytes.{indexOf, indexAfter}
 use Rattle.station.specs.declared.station.Station.{Station}
 use Rattle.replay.specs.Events.{stationAfterLine, textAfterLine}
-use Rattle.replay.specs.Program.{HeardSoFar, heard, hear, hearAll}
-
--- no LF among them
-abbrev pub Plain : List ℕ → Type 0
-Plain [] = Unit {0}
-Plain (b ∷ bytes) = (eqb b 10 ≡ false) × Plain bytes
+use Rattle.replay.specs.Program.{HeardSoFar, heard, hear, hearAll, Plain}
 
 pub hear-byte : (st : Station) (line text : List ℕ) (b : ℕ) → eqb b 10 ≡ false → hear (heard st line text) b ≡ heard st (line ++ (b ∷ [])) text
 unfolding hear
@@ -60,10 +55,8 @@ hear-line st text l h =
     ap (λ (bytes : List ℕ). hearAll (heard st [] text) bytes) (at-lf l h) ∙ hear-plain st [] text line (10 ∷ more) (before-plain l) ∙ ap (λ (s : HeardSoFar). hearAll s more) (hear-lf st line text)
 
 -- what no LF ends
-pub hear-rest : (st : Station) (text l : List ℕ) → length l ≤ indexOf 10 l → hearAll (heard st [] text) l ≡ heard st l text
-hear-rest st text l h =
-    let p : Plain l = rw (take-all (indexOf 10 l) l h) at (before-plain l) in
-    ap (λ (bytes : List ℕ). hearAll (heard st [] text) bytes) (sym (append-nil l)) ∙ hear-plain st [] text l [] p
+pub no-lf : (l : List ℕ) → length l ≤ indexOf 10 l → Plain l
+no-lf l h = rw (take-all (indexOf 10 l) l h) at (before-plain l)
 
 -- ---- a part of a part
 

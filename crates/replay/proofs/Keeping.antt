@@ -1,21 +1,20 @@
--- What is kept of a read is its bytes after the last LF, moved to the front; with the next read they are heard as if they had come together. Assumes nothing.
-use Prim.Native.Nat.{ℕ, zero, suc, _+_, _-_, _≤_, _<_}
-use mathlib.Core.Path.{_≡_, refl, sym, ap, subst, _∙_}
-use mathlib.Core.Bool.{Bool, true, false, cond}
+-- What is kept of a read is its bytes after the last LF, moved to the front; the next read comes behind it. Assumes nothing.
+use Prim.Native.Nat.{ℕ, suc, _+_, _-_, _%_, _^_, _≤_, _<_}
+use mathlib.Core.Path.{_≡_, sym, ap, subst, _∙_}
+use mathlib.Core.Bool.{Bool, true, false}
 use mathlib.Core.List.{List, [], _∷_, _++_}
 use native.Mathlib.Omega.{arith}
 use native.Mathlib.Numerals.{add-one}
-use lib.Dec.{eqb, leb}
-use lib.ListN.{length, take, drop, getD, set, length-append, length-take, length-drop, take-append-drop}
-use lib.Seq.{append-snoc, drop-at, drop-cons, getD-drop, length-take-le, set-at, take-all, take-at, take-suc, take-take}
+use lib.ListN.{length, take, drop, getD, set, length-append, length-take, length-drop}
+use lib.Seq.{append-snoc, drop-at, drop-cons, getD-drop, length-take-le, set-at, take-all, take-append-add, take-append-le, take-at, take-suc, take-take}
 use borrow.Author.Tests.{le-leb, lt-leb}
-use Rattle.station.specs.declared.station.Station.{Station}
-use Rattle.station.specs.Stations.{newStation}
-use Rattle.replay.specs.Events.{stationAfterLine, textAfterLine}
+use Rattle.text.specs.Put.{Put}
+use Rattle.text.proofs.Putting.{put-text}
 use Rattle.replay.specs.Limits.{bufferSize, keptBytes}
-use Rattle.replay.specs.Program.{HeardSoFar, heard, hear, hearAll, keptOf, hearPiece, hearPieces, moveDown, Reached}
-use Rattle.replay.proofs.Hearing.{Plain, hear-plain, cut}
-use Rattle.replay.proofs.LimitsTied.{kept-fits}
+use Rattle.replay.specs.Program.{tornText, keptOf, moveDown, Reads}
+use Rattle.replay.proofs.Fits.{torn-fits}
+use Rattle.replay.proofs.Hearing.{cut}
+use Rattle.replay.proofs.LimitsTied.{answer-has-room, kept-fits}
 
 -- ---- moving
 
@@ -64,83 +63,21 @@ module _ (l : List ℕ) (from n : ℕ) (b : from ≤ n) (w : n ≤ length l) (e 
       let z : from ≡ 0 = omega arith in
       rw (le-leb bufferSize (length (drop from (take n l))) (omega (arith, rest-length)), z) (sym (take-take keptBytes n l (omega (arith, kept-fits))))
 
--- ---- what is kept has no LF
+-- ---- a read behind what was kept
 
-plain-then : (l : List ℕ) (b : ℕ) → Plain l → eqb b 10 ≡ false → Plain (l ++ (b ∷ []))
-plain-then [] b p e = (e, tt)
-plain-then (a ∷ l) b p e = (p .0, plain-then l b (p .1) e)
+pub read-behind : (l part post : List ℕ) (kept count got got′ : ℕ) (more : Bool) → kept ≤ length l → count ≤ length part → got′ ≡ (got + count) % 2 ^ 64 → (more ≡ false → count ≡ 0) → (more ≡ true → 0 < count)
+    → Reads (take kept l) got (take (kept + count) (take kept l ++ (part ++ post))) got′ more
+read-behind l part post kept count got got′ more h w e z g = record {
+  bytes = take count part;
+  pending-is =
+      subst (λ (k : ℕ). take (k + count) (take kept l ++ (part ++ post)) ≡ take kept l ++ take count (part ++ post)) (length-take-le kept l h) (take-append-add (take kept l) (part ++ post) count)
+      ∙ ap (λ (m : List ℕ). take kept l ++ m) (take-append-le count part post w);
+  got-is = e ∙ ap (λ (k : ℕ). (got + k) % 2 ^ 64) (sym (length-take-le count part w));
+  ends = λ m. ap (λ (k : ℕ). take k part) (z m);
+  goes-on = λ m. subst (λ (k : ℕ). 0 < k) (sym (length-take-le count part w)) (g m);
+}
 
-plain-take : (k : ℕ) (l : List ℕ) → Plain l → Plain (take k l)
-plain-take zero l p = tt
-plain-take (suc k) [] p = tt
-plain-take (suc k) (a ∷ l) p = (p .0, plain-take k l (p .1))
+-- ---- the end of the input
 
-plain-byte : (s : HeardSoFar) (b : ℕ) → Plain (s .line) → Plain (hear s b .line)
-unfolding hear
-plain-byte s b p = go (eqb b 10) refl
-  where
-    go : (x : Bool) → eqb b 10 ≡ x → Plain (cond x (heard (stationAfterLine (s .station) (s .line)) [] (s .text ++ textAfterLine (s .station) (s .line))) (heard (s .station) (s .line ++ (b ∷ [])) (s .text)) .line)
-    go true e = tt
-    go false e = plain-then (s .line) b p e
-
-plain-all : (s : HeardSoFar) (bytes : List ℕ) → Plain (s .line) → Plain (hearAll s bytes .line)
-plain-all s [] p = p
-plain-all s (b ∷ bytes) p = plain-all (hear s b) bytes (plain-byte s b p)
-
-plain-kept : (l : List ℕ) → Plain l → Plain (keptOf l)
-unfolding keptOf
-plain-kept l p = go (leb bufferSize (length l))
-  where
-    go : (x : Bool) → Plain (cond x (take keptBytes l) l)
-    go true = plain-take keptBytes l p
-    go false = p
-
-pub plain-reads : (s : HeardSoFar) (reads : List (List ℕ)) → Plain (s .line) → Plain (hearPieces s reads .line)
-plain-reads s [] p = p
-plain-reads s (bytes ∷ reads) p = plain-reads (hearPiece s bytes) reads (plain-kept (hearAll s bytes .line) (plain-all s bytes p))
-
--- ---- what was answered before changes nothing of what is heard
-
-record Alike (s t : HeardSoFar) : Type 0 where
-  station-is : s .station ≡ t .station
-  line-is : s .line ≡ t .line
-
-alike-byte : (st : Station) (line t u : List ℕ) (b : ℕ) → Alike (hear (heard st line t) b) (hear (heard st line u) b)
-unfolding hear
-alike-byte st line t u b = go (eqb b 10)
-  where
-    go : (x : Bool)
-        → Alike (cond x (heard (stationAfterLine st line) [] (t ++ textAfterLine st line)) (heard st (line ++ (b ∷ [])) t)) (cond x (heard (stationAfterLine st line) [] (u ++ textAfterLine st line)) (heard st (line ++ (b ∷ [])) u))
-    go true = record { station-is = refl; line-is = refl }
-    go false = record { station-is = refl; line-is = refl }
-
-alike-all : (s t : HeardSoFar) (bytes : List ℕ) → Alike s t → Alike (hearAll s bytes) (hearAll t bytes)
-alike-all s t [] a = a
-alike-all s t (b ∷ bytes) a =
-    alike-all (hear s b) (hear t b) bytes
-    (subst (λ (st : Station). Alike (hear (heard (s .station) (s .line) (s .text)) b) (hear (heard st (t .line) (t .text)) b)) (a .station-is)
-    (subst (λ (l : List ℕ). Alike (hear (heard (s .station) (s .line) (s .text)) b) (hear (heard (s .station) l (t .text)) b)) (a .line-is) (alike-byte (s .station) (s .line) (s .text) (t .text) b)))
-
--- ---- one read more
-
-reads-then : (s : HeardSoFar) (reads : List (List ℕ)) (bytes : List ℕ) → hearPieces s (reads ++ (bytes ∷ [])) ≡ hearPiece (hearPieces s reads) bytes
-reads-then s [] bytes = refl
-reads-then s (r ∷ reads) bytes = reads-then (hearPiece s r) reads bytes
-
-pub reached-next : (st : Station) (line bytes : List ℕ) (kept n : ℕ) (st′ : Station) (line′ : List ℕ) → kept ≤ n → Reached st line → line ≡ take kept bytes
-    → st′ ≡ hearAll (heard st [] []) (take n bytes) .station → line′ ≡ keptOf (hearAll (heard st [] []) (take n bytes) .line) → Reached st′ line′
-reached-next st line bytes kept n st′ line′ h x p a b =
-    let s : HeardSoFar = hearPieces (heard newStation [] []) (x .reads) in
-    let more : List ℕ = drop kept (take n bytes) in
-    let whole : take n bytes ≡ line ++ more = sym (take-append-drop kept (take n bytes)) ∙ ap (λ (l : List ℕ). l ++ more) (take-take kept n bytes h ∙ sym p) in
-    let plain : Plain line = subst Plain (x .line-is) (plain-reads (heard newStation [] []) (x .reads) tt) in
-    let together : hearAll (heard st [] []) (take n bytes) ≡ hearAll (heard st line []) more = ap (λ (l : List ℕ). hearAll (heard st [] []) l) whole ∙ hear-plain st [] [] line more plain in
-    let alike : Alike (hearAll s more) (hearAll (heard st line []) more) = alike-all s (heard st line []) more (record { station-is = x .station-is; line-is = x .line-is }) in
-    record {
-      reads = x .reads ++ (more ∷ []);
-      station-is = ap (λ (t : HeardSoFar). t .station) (reads-then (heard newStation [] []) (x .reads) more) ∙ alike .station-is ∙ ap (λ (t : HeardSoFar). t .station) (sym together) ∙ sym a;
-      line-is = ap (λ (t : HeardSoFar). t .line) (reads-then (heard newStation [] []) (x .reads) more) ∙ ap keptOf (alike .line-is ∙ ap (λ (t : HeardSoFar). t .line) (sym together)) ∙ sym b;
-    }
-
-pub reached-first : Reached newStation []
-reached-first = record { reads = []; station-is = refl; line-is = refl }
+pub torn-whole : (kept r : ℕ) (ys zs : List ℕ) → length ys ≡ bufferSize → Put ys 0 (tornText kept) zs r → take r zs ≡ tornText kept
+torn-whole kept r ys zs e x = put-text x (omega (arith, e, torn-fits kept, answer-has-room))

@@ -1,9 +1,9 @@
 pub mod LimitsTied
 pub mod Fits
 pub mod Turning
-pub mod Cursors
 pub mod Texts
 pub mod Hearing
 pub mod Going
 pub mod Keeping
 pub mod Cutting
+pub mod Reaching

@@ -1,7 +1,7 @@
 -- The whole program: what is answered to the bytes of an input, in one piece and as it is read. Definitions only.
-use Prim.Native.Nat.{ℕ}
+use Prim.Native.Nat.{ℕ, _+_, _%_, _^_, _<_}
 use mathlib.Core.Path.{_≡_}
-use mathlib.Core.Bool.{cond}
+use mathlib.Core.Bool.{Bool, true, false, cond}
 use mathlib.Core.List.{List, [], _∷_, _++_}
 use lib.Dec.{eqb, leb}
 use lib.ListN.{length, take, drop}
@@ -33,6 +33,11 @@ abbrev pub hearAll : HeardSoFar → List ℕ → HeardSoFar
 hearAll s [] = s
 hearAll s (b ∷ bytes) = hearAll (hear s b) bytes
 
+-- no LF among them
+abbrev pub Plain : List ℕ → Type 0
+Plain [] = Unit {0}
+Plain (b ∷ bytes) = (eqb b 10 ≡ false) × Plain bytes
+
 -- the end of the input: half a line, of so many bytes, runs nothing
 unfoldable pub tornText : ℕ → List ℕ
 tornText kept = cond (eqb kept 0) [] (errorText reason.TornLine)
@@ -54,9 +59,13 @@ keptOf line = cond (leb bufferSize (length line)) (take keptBytes line) line
 abbrev pub moveDown : List ℕ → ℕ → ℕ → List ℕ
 moveDown l from count = take count (drop from l) ++ drop count l
 
+-- what was heard, with so much of its line
+abbrev pub keptAs : HeardSoFar → HeardSoFar
+keptAs s = heard (s .station) (keptOf (s .line)) (s .text)
+
 -- one read: its bytes are heard after what was kept
 abbrev pub hearPiece : HeardSoFar → List ℕ → HeardSoFar
-hearPiece s bytes = heard (hearAll s bytes .station) (keptOf (hearAll s bytes .line)) (hearAll s bytes .text)
+hearPiece s bytes = keptAs (hearAll s bytes)
 
 abbrev pub hearPieces : HeardSoFar → List (List ℕ) → HeardSoFar
 hearPieces s [] = s
@@ -71,10 +80,43 @@ joined (bytes ∷ reads) = bytes ++ joined reads
 abbrev pub programOf : List (List ℕ) → List ℕ
 programOf reads = answered (hearPieces (heard newStation [] []) reads)
 
--- ---- what the loop promises
+-- ---- what the loop promises; bytes are counted round 2^64
 
--- a station, and the bytes kept of a line, that some reads lead to
-pub record Reached (st : Station) (line : List ℕ) : Type 0 where
+abbrev pub Counted : ℕ → List ℕ → Type 0
+Counted k bytes = k ≡ length bytes % 2 ^ 64
+
+-- after some reads, of so many bytes: the station, the bytes still to be heard, and how many were written. What was written, and what
+-- these bytes will be answered by, is what the reads are answered by
+pub record Reached (st : Station) (pending : List ℕ) (got sent : ℕ) : Type 0 where
   pub reads : List (List ℕ)
-  pub station-is : hearPieces (heard newStation [] []) reads .station ≡ st
-  pub line-is : hearPieces (heard newStation [] []) reads .line ≡ line
+  pub told : List ℕ
+  pub got-is : Counted got (joined reads)
+  pub sent-is : Counted sent told
+  pub heard-is : hearPieces (heard newStation [] []) reads ≡ keptAs (hearAll (heard st [] told) pending)
+
+-- these bytes are the next of the output, after so many: they stand there in the output of some reads
+pub record Due (sent : ℕ) (bytes : List ℕ) : Type 0 where
+  pub reads : List (List ℕ)
+  pub told : List ℕ
+  pub rest : List ℕ
+  pub sent-is : Counted sent told
+  pub output-is : program (joined reads) ≡ told ++ (bytes ++ rest)
+
+-- a read after what was kept; there is no more where nothing came
+pub record Reads (kept : List ℕ) (got : ℕ) (pending : List ℕ) (got′ : ℕ) (more : Bool) : Type 0 where
+  pub bytes : List ℕ
+  pub pending-is : pending ≡ kept ++ bytes
+  pub got-is : got′ ≡ (got + length bytes) % 2 ^ 64
+  pub ends : more ≡ false → bytes ≡ []
+  pub goes-on : more ≡ true → 0 < length bytes
+
+-- what is to be answered after some bytes: where the buffer was full the same, else a read after what is kept of them
+abbrev pub Follows : Bool → List ℕ → ℕ → List ℕ → ℕ → Bool → Type 0
+Follows true rest got pending got′ more = (pending ≡ rest) × (got′ ≡ got) × (more ≡ true)
+Follows false rest got pending got′ more = Reads (keptOf rest) got pending got′ more
+
+-- all of an input was answered: so many bytes, by so many
+pub record AllAnswered (got sent : ℕ) : Type 0 where
+  pub reads : List (List ℕ)
+  pub got-is : Counted got (joined reads)
+  pub sent-is : Counted sent (program (joined reads))

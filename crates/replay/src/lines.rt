@@ -2,85 +2,82 @@
 use crate::errors::put_error;
 use crate::limits::KEPT;
 use crate::turns::take_lines;
-use motor::motor::Motor;
 use session::event::Reason;
-use station::limits::MOTORS;
 use station::station::new;
 ghost use mathlib.Core.Path.{_≡_};
 ghost use mathlib.Core.Bool.{true, false};
-ghost use mathlib.Core.List.{[]};
-ghost use Prim.Native.Nat.{_+_, _≤_, _<_};
+ghost use mathlib.Core.List.{_++_};
+ghost use Prim.Native.Nat.{_+_, _-_, _%_, _^_, _≤_, _<_};
 ghost use lib.ListN.{length, take, drop, getD, set};
-ghost use Rattle.text.specs.Put.{Put, placed};
-ghost use Rattle.station.specs.lent.Lent.{stationOf};
+ghost use Rattle.text.specs.Put.{Put};
 ghost use Rattle.replay.specs.Limits.{bufferSize};
 ghost use Rattle.replay.specs.Program as spec;
 
-// What a turn leaves: the places, how many bytes of a line that isn't whole are kept, whether the input goes on, and whether every
-// read and write went well.
-pub struct Turn {
-    pub motors: [Motor; MOTORS],
-    pub kept: usize,
+// The bytes to be answered, from a place of the buffer up to n. got counts, round 2^64, all that were read. more is whether the
+// input goes on, good whether the read went well.
+pub struct Pending {
+    pub from: usize,
+    pub n: usize,
+    pub got: usize,
     pub more: bool,
     pub good: bool,
 }
 
-// How many bytes there are after a read, and whether it went well.
-pub struct Filled {
-    pub n: usize,
+// How many bytes were written in all, round 2^64, and whether every write went well.
+pub struct Wrote {
+    pub total: usize,
+    pub good: bool,
+}
+
+// How many bytes were read and written, round 2^64, and whether the input came to its end and every read and write went well.
+pub struct Ran {
+    pub got: usize,
+    pub sent: usize,
     pub good: bool,
 }
 
 // Answers the lines of the input until it ends, or a read or a write fails. Nothing says that an input ends, so the turns are
 // counted down from a number that no run uses up.
-pub(crate) fn run(inp: &mut [u8], out: &mut [u8])
+pub(crate) fn run(inp: &mut [u8], out: &mut [u8]) -> Ran
     requires { ⌜ (length (now inp) ≡ bufferSize) × (length (now out) ≡ bufferSize) ⌝ }
+    ensures { λ r. ⌜ (r .good ≡ true → spec.AllAnswered (r .got) (r .sent)) ⌝ }
 {
     let st = new();
     let mut motors = st.motors;
-    let mut kept: usize = 0;
+    let mut from: usize = 0;
+    let mut n: usize = 0;
+    let mut got: usize = 0;
+    let mut sent: usize = 0;
     let mut turns = u64::MAX;
     while turns > 0 {
         turns -= 1;
-        let turn = take_read(motors, inp, kept, out);
-        if !turn.good {
-            return;
-        }
-        if !turn.more {
-            return;
-        }
-        let after = turn.motors;
+        let taken = take_lines(motors, &inp[from..], n - from, out);
+        let after = taken.motors;
         motors = after;
-        kept = turn.kept;
+        let c = taken.cursor;
+        let at = c.at;
+        let told = written(&out[..at], sent);
+        if !told.good {
+            return Ran {
+                got,
+                sent,
+                good: false,
+            };
+        }
+        sent = told.total;
+        let next = more_bytes(inp, from + c.from, n, c.full, got);
+        if !next.more {
+            return finish(next, out, sent);
+        }
+        from = next.from;
+        n = next.n;
+        got = next.got;
     }
-}
-
-// Reads once, and answers the lines that end there. At the end of the input nothing is run.
-fn take_read(motors: [Motor; MOTORS], inp: &mut [u8], kept: usize, out: &mut [u8]) -> Turn
-    requires { ⌜ (length (now inp) ≡ bufferSize) × (length (now out) ≡ bufferSize) × (kept < bufferSize) × spec.Reached (stationOf motors) (take kept (now inp)) ⌝ }
-    ensures { λ r. ⌜ (r .good ≡ true → r .more ≡ true → (r .kept < bufferSize) × spec.Reached (stationOf (r .motors)) (take (r .kept) (now (inp .exit)))) × (r .good ≡ true → r .more ≡ false → (r .motors ≡ motors) × (now (out .exit) ≡ placed (now (out .entry)) 0 (spec.tornText kept))) ⌝ }
-{
-    let got = read_after(inp, kept);
-    let n = got.n;
-    if !got.good {
-        complain(b"replay: the input could not be read\n");
-        return Turn {
-            motors,
-            kept,
-            more: true,
-            good: false,
-        };
+    Ran {
+        got,
+        sent,
+        good: false,
     }
-    if n <= kept {
-        let good = finish(kept, out);
-        return Turn {
-            motors,
-            kept,
-            more: false,
-            good,
-        };
-    }
-    whole_lines(motors, inp, n, out)
 }
 
 // Says on standard error what failed.
@@ -88,55 +85,78 @@ fn complain(what: &[u8]) {
     io::write_all(2, what);
 }
 
-// Reads after the bytes kept, which stay as they are. No more bytes than these are there where the input ends.
-fn read_after(inp: &mut [u8], kept: usize) -> Filled
-    requires { ⌜ kept < length (now inp) ⌝ }
-    ensures { λ r. ⌜ (kept ≤ r .n) × (r .n ≤ length (now (inp .entry))) × (take kept (now (inp .exit)) ≡ take kept (now (inp .entry))) ⌝ }
+// Writes the bytes that are due, and says so where that fails.
+fn written(bytes: &[u8], sent: usize) -> Wrote
+    requires { ⌜ spec.Due sent (now bytes) ⌝ }
+    ensures { λ r. ⌜ r .total ≡ (sent + length (now (bytes .entry))) % 2 ^ 64 ⌝ }
 {
-    let part = &mut inp[kept..];
-    let got = libc::read(0, part);
-    let n = io::count(got, part);
-    Filled {
-        n: kept + n,
-        good: 0 <= got,
-    }
-}
-
-// Answers the lines that end among the first n bytes, writes the answers, and keeps what follows the last line.
-fn whole_lines(motors: [Motor; MOTORS], inp: &mut [u8], n: usize, out: &mut [u8]) -> Turn
-    requires { ⌜ (n ≤ length (now inp)) × (length (now inp) ≡ bufferSize) × (length (now out) ≡ bufferSize) ⌝ }
-    ensures { λ r. ⌜ (stationOf (r .motors) ≡ spec.hearAll (spec.heard (stationOf motors) [] []) (take n (now (inp .entry))) .station) × (take (r .kept) (now (inp .exit)) ≡ spec.keptOf (spec.hearAll (spec.heard (stationOf motors) [] []) (take n (now (inp .entry))) .line)) × (r .kept < bufferSize) × (r .more ≡ true) ⌝ }
-{
-    let taken = take_lines(motors, inp, n, out);
-    let after = taken.motors;
-    let c = taken.cursor;
-    let good = written(out, c.at, c.good);
-    let kept = keep(inp, c.from, n);
-    Turn {
-        motors: after,
-        kept,
-        more: true,
-        good,
-    }
-}
-
-// The end of the input: a line that it tears is answered, and that is written.
-fn finish(kept: usize, out: &mut [u8]) -> bool
-    ensures { λ r. ⌜ now (out .exit) ≡ placed (now (out .entry)) 0 (spec.tornText kept) ⌝ }
-{
-    let n = put_torn(kept, out);
-    written(out, n, true)
-}
-
-// Writes the first n bytes of out, and says so where this, or what came before, failed.
-fn written(out: &[u8], n: usize, good: bool) -> bool
-    ensures { λ r. ⌜ (r ≡ true → (n ≤ length (now (out .entry))) × (good ≡ true)) ⌝ }
-{
-    if flush(out, n, good) {
-        return true;
+    let total = std::num::wrapping_add_usize(sent, bytes.len());
+    if io::write_all(1, bytes) {
+        return Wrote { total, good: true };
     }
     complain(b"replay: an answer could not be written\n");
-    false
+    Wrote { total, good: false }
+}
+
+// The bytes to be answered after those up to `from`: where the buffer was full, the rest; else what is kept of a line that isn't
+// whole, and a read behind it.
+fn more_bytes(inp: &mut [u8], from: usize, n: usize, full: bool, got: usize) -> Pending
+    requires { ⌜ (from ≤ n) × (n ≤ length (now inp)) × (length (now inp) ≡ bufferSize) ⌝ }
+    ensures { λ r. ⌜ (r .from ≤ r .n) × (r .n ≤ bufferSize) × spec.Follows full (drop from (take n (now (inp .entry)))) got (drop (r .from) (take (r .n) (now (inp .exit)))) (r .got) (r .more) ⌝ }
+{
+    if full {
+        return Pending {
+            from,
+            n,
+            got,
+            more: true,
+            good: true,
+        };
+    }
+    let kept = keep(inp, from, n);
+    read_after(inp, kept, got)
+}
+
+// Reads after the bytes kept, which stay as they are. No more bytes than these are there where the input ends, or the read fails.
+fn read_after(inp: &mut [u8], kept: usize, got: usize) -> Pending
+    requires { ⌜ (kept < bufferSize) × (length (now inp) ≡ bufferSize) ⌝ }
+    ensures { λ r. ⌜ (r .from ≡ 0) × (r .n ≤ bufferSize) × spec.Reads (take kept (now (inp .entry))) got (take (r .n) (now (inp .exit))) (r .got) (r .more) ⌝ }
+{
+    let part = &mut inp[kept..];
+    let answer = libc::read(0, part);
+    let count = io::count(answer, part);
+    let n = kept + count;
+    Pending {
+        from: 0,
+        n,
+        got: std::num::wrapping_add_usize(got, count),
+        more: 0 < count,
+        good: 0 <= answer,
+    }
+}
+
+// The end of the input: a line that it tears is answered, and that is written. Of a read that failed it is said that it did.
+fn finish(end: Pending, out: &mut [u8], sent: usize) -> Ran
+    requires { ⌜ (length (now out) ≡ bufferSize) × (end .from ≤ end .n) × spec.Due sent (spec.tornText (end .n - end .from)) ⌝ }
+    ensures { λ r. ⌜ (r .got ≡ end .got) × (r .good ≡ true → r .sent ≡ (sent + length (spec.tornText (end .n - end .from))) % 2 ^ 64) ⌝ }
+{
+    let got = end.got;
+    if !end.good {
+        complain(b"replay: the input could not be read\n");
+        return Ran {
+            got,
+            sent,
+            good: false,
+        };
+    }
+    let left = end.n - end.from;
+    let n = put_torn(left, out);
+    let told = written(&out[..n], sent);
+    Ran {
+        got,
+        sent: told.total,
+        good: told.good,
+    }
 }
 
 // Where bytes of a line are left at the end of the input, why they are no event.
@@ -180,17 +200,4 @@ fn move_byte(inp: &mut [u8], to: usize, from: usize)
     ensures { λ _. ⌜ now (inp .exit) ≡ set (now (inp .entry)) to (getD (now (inp .entry)) from 0) ⌝ }
 {
     inp[to] = inp[from];
-}
-
-// Writes the first n bytes of out, and answers whether this and what came before went well.
-pub(crate) fn flush(out: &[u8], n: usize, good: bool) -> bool
-    ensures { λ r. ⌜ (r ≡ true → (n ≤ length (now (out .entry))) × (good ≡ true)) ⌝ }
-{
-    if out.len() < n {
-        return false;
-    }
-    if !io::write_all(1, &out[0..n]) {
-        return false;
-    }
-    good
 }

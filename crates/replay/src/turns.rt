@@ -4,8 +4,6 @@ use crate::cursor::Cursor;
 use crate::cursor::first_line;
 use crate::cursor::line_in;
 use crate::cursor::next_line;
-use crate::limits::ROOM;
-use crate::lines::flush;
 use crate::others::is_fresh;
 use crate::others::put_other;
 use answers::looks::put_looked;
@@ -35,7 +33,7 @@ ghost use Rattle.text.specs.Put.{Put};
 ghost use Rattle.answers.specs.Looks.{lookedText};
 ghost use Rattle.station.specs.Calls.{timeOf};
 ghost use Rattle.station.specs.lent.Lent.{stationOf};
-ghost use Rattle.replay.specs.Limits.{bufferSize};
+ghost use Rattle.replay.specs.Limits.{bufferSize, outputRoom};
 ghost use Rattle.replay.specs.Events as spec;
 ghost use Rattle.replay.specs.Turns as turn;
 
@@ -43,12 +41,6 @@ ghost use Rattle.replay.specs.Turns as turn;
 pub struct Taken {
     pub motors: [Motor; MOTORS],
     pub cursor: Cursor,
-}
-
-// Where an answer goes, and whether every write went well.
-struct Room {
-    at: usize,
-    good: bool,
 }
 
 // What the line at a cursor says.
@@ -61,21 +53,6 @@ fn line_at(inp: &[u8], c: Cursor) -> Line
 }
 
 // ---- answers
-
-// What stands in the buffer is written first where less than an answer's length is free.
-fn room_for(out: &[u8], c: Cursor) -> Room
-    ensures { λ r. ⌜ r .«at» ≡ turn.roomAt (c .«at») ⌝ }
-{
-    let at = c.at;
-    let good = c.good;
-    if ROOM < at {
-        return Room {
-            at: 0,
-            good: flush(out, at, good),
-        };
-    }
-    Room { at, good }
-}
 
 // A call's reply; of a look what it shows is put_look's.
 fn put_replied(replied: Replied, time: u64, out: &mut [u8], at: usize) -> usize
@@ -100,20 +77,20 @@ fn put_reply(
     out: &mut [u8],
     c: Cursor,
 ) -> Cursor
-    ensures { λ r. ⌜ Put (now (out .entry)) (turn.roomAt (c .«at»)) (spec.repliedText replied (timeOf call)) (now (out .exit)) (r .«at») × (r .more ≡ true → r .left < c .left) × (r ≡ turn.cursorAfter (now (inp .entry)) n c (r .«at») (r .good)) ⌝ }
+    ensures { λ r. ⌜ Put (now (out .entry)) (c .«at») (spec.repliedText replied (timeOf call)) (now (out .exit)) (r .«at») × (r .more ≡ true → r .left < c .left) × (r ≡ turn.cursorAfter (now (inp .entry)) n c (r .«at»)) ⌝ }
 {
-    let room = room_for(out, c);
-    let p = put_replied(replied, time_of(call), out, room.at);
-    next_line(inp, n, c, p, room.good)
+    let at = c.at;
+    let p = put_replied(replied, time_of(call), out, at);
+    next_line(inp, n, c, p)
 }
 
 // Puts a look's answer, and finds the next line.
 fn put_look(looked: Looked, inp: &[u8], n: usize, out: &mut [u8], c: Cursor) -> Cursor
-    ensures { λ r. ⌜ Put (now (out .entry)) (turn.roomAt (c .«at»)) (lookedText looked) (now (out .exit)) (r .«at») × (r .more ≡ true → r .left < c .left) × (r ≡ turn.cursorAfter (now (inp .entry)) n c (r .«at») (r .good)) ⌝ }
+    ensures { λ r. ⌜ Put (now (out .entry)) (c .«at») (lookedText looked) (now (out .exit)) (r .«at») × (r .more ≡ true → r .left < c .left) × (r ≡ turn.cursorAfter (now (inp .entry)) n c (r .«at»)) ⌝ }
 {
-    let room = room_for(out, c);
-    let p = put_looked(looked, out, room.at);
-    next_line(inp, n, c, p, room.good)
+    let at = c.at;
+    let p = put_looked(looked, out, at);
+    next_line(inp, n, c, p)
 }
 
 // ---- lines
@@ -127,11 +104,11 @@ fn take_other(
     out: &mut [u8],
     c: Cursor,
 ) -> Taken
-    ensures { λ r. ⌜ (stationOf (r .motors) ≡ spec.stationOfOther (stationOf motors) other) × Put (now (out .entry)) (turn.roomAt (c .«at»)) (spec.otherText other) (now (out .exit)) (r .cursor .«at») × (r .cursor .more ≡ true → r .cursor .left < c .left) × (r .cursor ≡ turn.cursorAfter (now (inp .entry)) n c (r .cursor .«at») (r .cursor .good)) ⌝ }
+    ensures { λ r. ⌜ (stationOf (r .motors) ≡ spec.stationOfOther (stationOf motors) other) × Put (now (out .entry)) (c .«at») (spec.otherText other) (now (out .exit)) (r .cursor .«at») × (r .cursor .more ≡ true → r .cursor .left < c .left) × (r .cursor ≡ turn.cursorAfter (now (inp .entry)) n c (r .cursor .«at»)) ⌝ }
 {
-    let room = room_for(out, c);
-    let p = put_other(other, out, room.at);
-    let cursor = next_line(inp, n, c, p, room.good);
+    let at = c.at;
+    let p = put_other(other, out, at);
+    let cursor = next_line(inp, n, c, p);
     if is_fresh(other) {
         let st = new();
         let motors = st.motors;
@@ -148,8 +125,8 @@ pub(crate) fn take_line(
     out: &mut [u8],
     c: Cursor,
 ) -> Cursor
-    requires { ⌜ length (now out) ≡ bufferSize ⌝ }
-    ensures { λ r. ⌜ (stationOf (now (motors .exit)) ≡ spec.stationAfterLine (stationOf (now (motors .entry))) (turn.lineAt (now (inp .entry)) (c .from) (c .end))) × Put (now (out .entry)) (turn.roomAt (c .«at»)) (spec.textAfterLine (stationOf (now (motors .entry))) (turn.lineAt (now (inp .entry)) (c .from) (c .end))) (now (out .exit)) (r .«at») × (r .more ≡ true → r .left < c .left) × (r ≡ turn.cursorAfter (now (inp .entry)) n c (r .«at») (r .good)) × (take (r .«at») (now (out .exit)) ≡ take (turn.roomAt (c .«at»)) (now (out .entry)) ++ spec.textAfterLine (stationOf (now (motors .entry))) (turn.lineAt (now (inp .entry)) (c .from) (c .end))) ⌝ }
+    requires { ⌜ (length (now out) ≡ bufferSize) × (c .«at» ≤ outputRoom) ⌝ }
+    ensures { λ r. ⌜ (stationOf (now (motors .exit)) ≡ spec.stationAfterLine (stationOf (now (motors .entry))) (turn.lineAt (now (inp .entry)) (c .from) (c .end))) × Put (now (out .entry)) (c .«at») (spec.textAfterLine (stationOf (now (motors .entry))) (turn.lineAt (now (inp .entry)) (c .from) (c .end))) (now (out .exit)) (r .«at») × (r .more ≡ true → r .left < c .left) × (r ≡ turn.cursorAfter (now (inp .entry)) n c (r .«at»)) × (take (r .«at») (now (out .exit)) ≡ take (c .«at») (now (out .entry)) ++ spec.textAfterLine (stationOf (now (motors .entry))) (turn.lineAt (now (inp .entry)) (c .from) (c .end))) ⌝ }
 {
     let line = line_at(inp, c);
     let event = line.event;
@@ -173,9 +150,9 @@ pub(crate) fn take_line(
     }
 }
 
-// The lines that end among the first n bytes.
+// The lines that end among the first n bytes, as long as there is room for an answer.
 pub(crate) fn take_lines(motors: [Motor; MOTORS], inp: &[u8], n: usize, out: &mut [u8]) -> Taken
-    requires { ⌜ (n ≤ length (now inp)) × (length (now inp) ≡ bufferSize) × (length (now out) ≡ bufferSize) ⌝ }
+    requires { ⌜ (n ≤ length (now inp)) × (length (now inp) ≤ bufferSize) × (length (now out) ≡ bufferSize) ⌝ }
     ensures { λ r. ⌜ turn.LinesTaken (stationOf motors) (take n (now (inp .entry))) (stationOf (r .motors)) (r .cursor) (now (out .exit)) ⌝ }
 {
     let mut motors = motors;

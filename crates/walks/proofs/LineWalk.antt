@@ -92,10 +92,10 @@ either-way (inr b) f g = g b
 
 -- ---- the line
 
--- Z is lent, L the line, E its event and F its frame, C a call and Q what a line says besides, P what is asked, O the reply, K what a look looks at, X what is seen, D the cursor, R the by-value function's answer; what is asked of the output; what each callee says, and what is promised, of the station, the input, the output, the cursor, and of the last three at exit
+-- Z is lent, L the line, E its event and F its frame, C a call and Q what a line says besides, P what is asked, O the reply, K what a look looks at, X what is seen, D the cursor, R the by-value function's answer; what is asked of the output and the cursor; what each callee says, and what is promised, of the station, the input, the output, the cursor, and of the last three at exit
 module _ (Z P O K X D L F Q C₀ E₀ : Held) (R : RattleType) (νl νr νc νe : Sym) (τ0 τ1 τ2 τ3 τ5 : Tys) (event : L .Denot → E₀ .Denot) (framed : L .Denot → F .Denot) (asks : C₀ .Denot → F .Denot → P .Denot) (calls : C₀ .Denot → E₀ .Denot) (others : Q .Denot → E₀ .Denot) (looks : K .Denot → C₀ .Denot) (NotLook : C₀ .Denot → Type 0)
     (st : R .Denot → Z .Denot) (cur : R .Denot → D .Denot)
-    (Free : List ℕ → Type 0) (Says : List ℕ → D .Denot → L .Denot → Type 0) (Called : Z .Denot → P .Denot → O .Denot → Z .Denot → Type 0) (Replies : O .Denot → C₀ .Denot → List ℕ → ℕ → List ℕ → D .Denot → D .Denot → List ℕ → Type 0)
+    (Free : List ℕ → D .Denot → Type 0) (Says : List ℕ → D .Denot → L .Denot → Type 0) (Called : Z .Denot → P .Denot → O .Denot → Z .Denot → Type 0) (Replies : O .Denot → C₀ .Denot → List ℕ → ℕ → List ℕ → D .Denot → D .Denot → List ℕ → Type 0)
     (Looked : Z .Denot → K .Denot → X .Denot → Z .Denot → Type 0) (Shows : X .Denot → List ℕ → ℕ → List ℕ → D .Denot → D .Denot → List ℕ → Type 0)
     (Takes : Z .Denot → Q .Denot → List ℕ → ℕ → List ℕ → D .Denot → R .Denot → List ℕ → Type 0) (Promised : Z .Denot → List ℕ → ℕ → List ℕ → D .Denot → D .Denot → Z .Denot → List ℕ → Type 0) where
   abbrev C : Held
@@ -192,7 +192,7 @@ module _ (Z P O K X D L F Q C₀ E₀ : Held) (R : RattleType) (νl νr νc νe 
 
   module _ {M : Type 1} (𝓤 : URA M) (H : Heap 𝓤) (A : Atoms 𝓤) where
     abbrev pub clauses : Clauses 𝓤 ended
-    clauses κs a = record { ghost = U; requires = λ _. fact 𝓤 (Free (now (a .1 .1 .1 .0))); ensures = λ _ r end. fact 𝓤 (Promised (now (a .0)) (now (a .1 .0)) (a .1 .1 .0) (now (a .1 .1 .1 .0)) (a .1 .1 .1 .1 .0) r (now (end .0)) (now (end .1 .1 .1 .0))) }
+    clauses κs a = record { ghost = U; requires = λ _. fact 𝓤 (Free (now (a .1 .1 .1 .0)) (a .1 .1 .1 .1 .0)); ensures = λ _ r end. fact 𝓤 (Promised (now (a .0)) (now (a .1 .0)) (a .1 .1 .0) (now (a .1 .1 .1 .0)) (a .1 .1 .1 .1 .0) r (now (end .0)) (now (end .1 .1 .1 .0))) }
 
     abbrev line-clauses : Clauses 𝓤 line-ended
     line-clauses κs a = record { ghost = U; requires = λ _. emp 𝓤; ensures = λ _ r end. fact 𝓤 (Says (now (a .0)) (a .1 .0) r) }
@@ -232,9 +232,9 @@ module _ (Z P O K X D L F Q C₀ E₀ : Held) (R : RattleType) (νl νr νc νe 
 
     module _ (W : Given 𝓤 H A) (Zk : Known 𝓤 H A Z) (Pk : Known 𝓤 H A P) (Ok : Known 𝓤 H A O) (Kk : Known 𝓤 H A K) (Xk : Known 𝓤 H A X) (Dk : Known 𝓤 H A D) (Fk : Known 𝓤 H A F) (Qk : Known 𝓤 H A Q) (Ck : Known 𝓤 H A C) (Ek : Known 𝓤 H A E) (Lk : Lines E F L νl event framed) (Vk : Views E C Q K calls others looks NotLook) (Rk : Answers Z D R νr st cur)
         (builds : (k : C₀ .Denot) (f : F .Denot) → Is (row C) k (C .val k ∷ []) → Is (row F) f (F .val f ∷ []) → Is (row P) (asks k f) (pairVal C F k f ∷ []))
-        (holds-asks : (h : Z .Denot) (xs : List ℕ) (n : ℕ) (ys : List ℕ) (c : D .Denot) (l : L .Denot) (k : C₀ .Denot) (y : O .Denot) (z : Z .Denot) (r : D .Denot) (zs : List ℕ) → Free ys → Says xs c l → event l ≡ calls k → NotLook k → Called h (asks k (framed l)) y z → Replies y k xs n ys c r zs → Promised h xs n ys c r z zs)
-        (holds-looks : (h : Z .Denot) (xs : List ℕ) (n : ℕ) (ys : List ℕ) (c : D .Denot) (l : L .Denot) (k : C₀ .Denot) (id : K .Denot) (y : X .Denot) (z : Z .Denot) (r : D .Denot) (zs : List ℕ) → Free ys → Says xs c l → event l ≡ calls k → k ≡ looks id → Looked h id y z → Shows y xs n ys c r zs → Promised h xs n ys c r z zs)
-        (holds-other : (h : Z .Denot) (xs : List ℕ) (n : ℕ) (ys : List ℕ) (c : D .Denot) (l : L .Denot) (w : Q .Denot) (v : R .Denot) (zs : List ℕ) → Free ys → Says xs c l → event l ≡ others w → Takes h w xs n ys c v zs → Promised h xs n ys c (cur v) (st v) zs) where
+        (holds-asks : (h : Z .Denot) (xs : List ℕ) (n : ℕ) (ys : List ℕ) (c : D .Denot) (l : L .Denot) (k : C₀ .Denot) (y : O .Denot) (z : Z .Denot) (r : D .Denot) (zs : List ℕ) → Free ys c → Says xs c l → event l ≡ calls k → NotLook k → Called h (asks k (framed l)) y z → Replies y k xs n ys c r zs → Promised h xs n ys c r z zs)
+        (holds-looks : (h : Z .Denot) (xs : List ℕ) (n : ℕ) (ys : List ℕ) (c : D .Denot) (l : L .Denot) (k : C₀ .Denot) (id : K .Denot) (y : X .Denot) (z : Z .Denot) (r : D .Denot) (zs : List ℕ) → Free ys c → Says xs c l → event l ≡ calls k → k ≡ looks id → Looked h id y z → Shows y xs n ys c r zs → Promised h xs n ys c r z zs)
+        (holds-other : (h : Z .Denot) (xs : List ℕ) (n : ℕ) (ys : List ℕ) (c : D .Denot) (l : L .Denot) (w : Q .Denot) (v : R .Denot) (zs : List ℕ) → Free ys c → Says xs c l → event l ≡ others w → Takes h w xs n ys c v zs → Promised h xs n ys c (cur v) (st v) zs) where
       module _ (κ₀ κ₁ κ₂ : Lft) (q₀ q₁ q₂ : Share) (b o : ℕ) (γ : GName) (h : Z .Denot) (s : RefT (List ℕ)) (n : ℕ) (b′ o′ : ℕ) (γ′ : GName) (ys : List ℕ) (c : D .Denot) where
         -- what is passed, and its machine values
         abbrev xt : RefT (Z .Denot)
@@ -285,7 +285,7 @@ module _ (Z P O K X D L F Q C₀ E₀ : Held) (R : RattleType) (νl νr νc νe 
             move ! (3 ∷ []) $ split ! $ move ! (0 ∷ 3 ∷ []) $ join ! $ frame ! $
             nothing ! $ fjoin ! $ move ! (2 ∷ 0 ∷ []) $ fjoin ! $ nothing ! $ fjoin ! $ nothing ! $ fjoin ! $ move ! (2 ∷ 0 ∷ []) $ fjoin ! $ frame ! $ done !
 
-        module _ (n-is : Is usize n (vint w64 n ∷ [])) (c-is : Is (row D) c (D .val c ∷ [])) (free : Free ys) where
+        module _ (n-is : Is usize n (vint w64 n ∷ [])) (c-is : Is (row D) c (D .val c ∷ [])) (free : Free ys c) where
           -- ---- each call: what it is passed, and that the caller has what it asks
           abbrev to-line : CLine .Ghost
           to-line = (((κ₁, tt), (q₁, tt), tt, (s, (c, tt)), (sv ∷ [], (D .val c ∷ [], tt))), tt)
@@ -486,6 +486,6 @@ module _ (Z P O K X D L F Q C₀ E₀ : Held) (R : RattleType) (νl νr νc νe 
           (walked 𝓤 H A ended stayed clauses (WpFn 𝓤 H (𝓣 .C) (𝓣 .Λ) (code #line #call #reply #look #show #value))
           (λ κs. (ptr-vals, (slice-vals, (uint-vals w64, (slice-vals, ((λ y. D .val y ∷ []), tt))))))
           (λ κs. (mut-tells (named 0) (κs .0) (still Z), (shr-slice-tells (named 1) (κs .1 .0) u8, (uint-tells w64, (mut-slice-tells (named 2) (κs .1 .1 .0) u8, (Dk .tells, tt))))))
-          (λ κs qs bounds a _ are. needs 𝓤 (Free (a .1 .1 .1 .0 .now)) _ (λ free.
+          (λ κs qs bounds a _ are. needs 𝓤 (Free (a .1 .1 .1 .0 .now) (a .1 .1 .1 .1 .0)) _ (λ free.
           (walk (κs .0) (κs .1 .0) (κs .1 .1 .0) (qs .0) (qs .1 .0) (qs .1 .1 .0) (a .0 .ptr .0) (a .0 .ptr .1) (a .0 .name) (a .0 .now) (a .1 .0) (a .1 .1 .0) (a .1 .1 .1 .0 .ptr .0) (a .1 .1 .1 .0 .ptr .1) (a .1 .1 .1 .0 .name) (a .1 .1 .1 .0 .now) (a .1 .1 .1 .1 .0)
           (are .1 .1 .0) (are .1 .1 .1 .1 .0) free #line #call #reply #look #show #value (𝓣 .C) (𝓣 .Λ) (fmOf 𝓤 H (W .laws) 𝓣) known-line known-call known-reply known-look known-show known-value (are .1 .1 .1 .0 .0 .1) (are .1 .0)))))

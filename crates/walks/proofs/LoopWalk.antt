@@ -82,12 +82,12 @@ pub record Takes {M : Type 1} (𝓤 : URA M) (H : Heap 𝓤) (A : Atoms 𝓤) (Z
   pub is : (z : Z .Denot) (c : Q .Denot) → Is (row Z) z (Z .val z ∷ []) → Is Q c (val c ∷ []) → Is R (made z c) (vstruct (vcons (Z .val z) (vcons (val c) vnil)) ∷ [])
   pub makes : Makes 𝓤 H A R (Is R)
 
-module _ (Z : Held) (Q R : RattleType) (ν μ : Sym) (n₀ n₁ n₂ left : Q .Denot → ℕ) (more good : Q .Denot → Bool) (made : Z .Denot → Q .Denot → R .Denot)
-    -- what the loop asks of the input, of how much of it and of the output; what the first cursor is; what a turn asks of the output, and what it gives; what holds at each turn; and what is promised
-    (Pre : Bytes → ℕ → Bytes → Type 0) (Begun : Bytes → ℕ → Q .Denot → Type 0) (Free : Bytes → Type 0) (Went : Z .Denot → Bytes → ℕ → Bytes → Q .Denot → Q .Denot → Z .Denot → Bytes → Type 0)
+module _ (Z : Held) (Q R : RattleType) (ν μ : Sym) (n₀ n₁ n₂ left : Q .Denot → ℕ) (more full : Q .Denot → Bool) (made : Z .Denot → Q .Denot → R .Denot)
+    -- what the loop asks of the input, of how much of it and of the output; what the first cursor is; what a turn asks of the output and the cursor, and what it gives; what holds at each turn; and what is promised
+    (Pre : Bytes → ℕ → Bytes → Type 0) (Begun : Bytes → ℕ → Q .Denot → Type 0) (Free : Bytes → Q .Denot → Type 0) (Went : Z .Denot → Bytes → ℕ → Bytes → Q .Denot → Q .Denot → Z .Denot → Bytes → Type 0)
     (Inv : Z .Denot → Bytes → ℕ → Z .Denot → Q .Denot → Bytes → Type 0) (Promised : Z .Denot → Bytes → ℕ → R .Denot → Bytes → Type 0) where
   abbrev pub curVal : Q .Denot → Val
-  curVal c = cursorVal (n₀ c) (n₁ c) (n₂ c) (left c) (more c) (good c)
+  curVal c = cursorVal (n₀ c) (n₁ c) (n₂ c) (left c) (more c) (full c)
 
   abbrev takenVal : Z .Denot → Q .Denot → Val
   takenVal z c = vstruct (vcons (Z .val z) (vcons (curVal c) vnil))
@@ -156,12 +156,12 @@ module _ (Z : Held) (Q R : RattleType) (ν μ : Sym) (n₀ n₁ n₂ left : Q .D
     Begin = tripleOf 𝓤 H A (begin-ended .signature) (closing 𝓤 H A begin-ended (λ κs a. record { ghost = Unit {0}; requires = λ _. emp 𝓤; ensures = λ _ r end. fact 𝓤 (Begun (now (a .0)) (a .1 .0) r) }))
 
     abbrev On : Contract 𝓤
-    On = tripleOf 𝓤 H A (on-ended .signature) (closing 𝓤 H A on-ended (λ κs a. record { ghost = Unit {0}; requires = λ _. fact 𝓤 (Free (now (a .1 .1 .1 .0))); ensures = λ _ r end. fact 𝓤 (Went (now (a .0)) (now (a .1 .0)) (a .1 .1 .0) (now (a .1 .1 .1 .0)) (a .1 .1 .1 .1 .0) r (now (end .0)) (now (end .1 .1 .1 .0))) }))
+    On = tripleOf 𝓤 H A (on-ended .signature) (closing 𝓤 H A on-ended (λ κs a. record { ghost = Unit {0}; requires = λ _. fact 𝓤 (Free (now (a .1 .1 .1 .0)) (a .1 .1 .1 .1 .0)); ensures = λ _ r end. fact 𝓤 (Went (now (a .0)) (now (a .1 .0)) (a .1 .1 .0) (now (a .1 .1 .1 .0)) (a .1 .1 .1 .1 .0) r (now (end .0)) (now (end .1 .1 .1 .0))) }))
 
     module _ (W : Given 𝓤 H A)
         (falls : (z z′ : Z .Denot) (xs : Bytes) (n : ℕ) (zs zs′ : Bytes) (c r : Q .Denot) → Went z xs n zs c r z′ zs′ → more r ≡ true → left r < left c)
         (begins-with : (z : Z .Denot) (xs : Bytes) (n : ℕ) (ys : Bytes) (c : Q .Denot) → Pre xs n ys → Begun xs n c → Inv z xs n z c ys)
-        (frees : (z₀ : Z .Denot) (xs : Bytes) (n : ℕ) (z : Z .Denot) (c : Q .Denot) (zs : Bytes) → Inv z₀ xs n z c zs → Free zs)
+        (frees : (z₀ : Z .Denot) (xs : Bytes) (n : ℕ) (z : Z .Denot) (c : Q .Denot) (zs : Bytes) → Inv z₀ xs n z c zs → T (more c) → Free zs c)
         (keeps : (z₀ : Z .Denot) (xs : Bytes) (n : ℕ) (z z′ : Z .Denot) (zs zs′ : Bytes) (c r : Q .Denot) → Inv z₀ xs n z c zs → T (more c) → Went z xs n zs c r z′ zs′ → Inv z₀ xs n z′ r zs′)
         (ends-with : (z₀ : Z .Denot) (xs : Bytes) (n : ℕ) (z : Z .Denot) (c : Q .Denot) (zs : Bytes) → Inv z₀ xs n z c zs → T (not (more c)) → Promised z₀ xs n (made z c) zs)
         (Zk : Known 𝓤 H A Z) (Qk : Cursors 𝓤 H A Q ν curVal) (Rk : Takes 𝓤 H A Z Q R ν μ curVal made) where
@@ -225,7 +225,7 @@ module _ (Z : Held) (Q R : RattleType) (ν μ : Sym) (n₀ n₁ n₂ left : Q .D
             split ! $ move ! (1 ∷ []) $ peeks ! Q (Is Q) (shows 𝓤 H A Q) r (w ∷ []) (λ is. drop ! $ split ! $ at-once ! $ show ! (λ (r′ : Q .Denot). guard 𝓤 (Is Q r′ (w ∷ []) × Begun xs n r′) (A .lft κ₀ q₀)) r $ check ! (is, begun) $ keep ! (0 ∷ []) $ done !))))
 
         -- ---- the call of a turn: the value is lent for α under δ, and `out` for β under ε
-        module _ (l5 : ℕ) (α β : ℕ) (δ ε : GName) (z : Z .Denot) (c : Q .Denot) (zs : Bytes) (c-is : IsQ c) (free : Free zs) where
+        module _ (l5 : ℕ) (α β : ℕ) (δ ε : GName) (z : Z .Denot) (c : Q .Denot) (zs : Bytes) (c-is : IsQ c) (free : Free zs c) where
           abbrev κs : Lft × (Lft × (Lft × Unit {0}))
           κs = (α ∷ [], (κ₀, (β ∷ [], tt)))
 
@@ -308,10 +308,10 @@ module _ (Z : Held) (Q R : RattleType) (ν μ : Sym) (n₀ n₁ n₂ left : Q .D
                 use2 W (later (some (λ (ε : GName). ‵ (OutAt (β ∷ []) ε (y .2)) ⊛ ‵ (LentAgain u8 κ₁ (β ∷ []) q₁ γo bo oo ε (y .2))))) (lends-again-at u8 κ₁ (β ∷ []) q₁ γo bo oo (length ys) 𝓤 H A W (named 1) (named 1) (y .2) (y .5)) $ await ! tt $ pick ! (λ ε. split ! $
                 -- `inp` is copied, and what the callee asks is put together
                 move ! (30 ∷ []) $ use1 W (‵ Inp ⊛ ‵ Inp) (shr-slice-copy 𝓤 H A W (named 0) κ₀ u8 .twice (ref bi oi γi xs) (vi ∷ [])) $ split ! $
-                move ! (7 ∷ 31 ∷ 6 ∷ 4 ∷ 0 ∷ 2 ∷ []) $ group ! 6 $ use1 W (raw (On .pre (to-on l5 α β δ ε (y .0) (y .1) (y .2) (y .4) (frees z₀ xs n (y .0) (y .1) (y .2) (y .6))))) (goes-on l5 α β δ ε (y .0) (y .1) (y .2) (y .4) (frees z₀ xs n (y .0) (y .1) (y .2) (y .6))) $
+                move ! (7 ∷ 31 ∷ 6 ∷ 4 ∷ 0 ∷ 2 ∷ []) $ group ! 6 $ use1 W (raw (On .pre (to-on l5 α β δ ε (y .0) (y .1) (y .2) (y .4) (frees z₀ xs n (y .0) (y .1) (y .2) (y .6) more-is)))) (goes-on l5 α β δ ε (y .0) (y .1) (y .2) (y .4) (frees z₀ xs n (y .0) (y .1) (y .2) (y .6) more-is)) $
                 -- [what the callee asks; inp; the holder's part of out; the lender's part; the locals from 4, with the value's cell away]
-                calls-at-last ! (fmOf 𝓤 H (W .laws) 𝓣) On ons (to-on l5 α β δ ε (y .0) (y .1) (y .2) (y .4) (frees z₀ xs n (y .0) (y .1) (y .2) (y .6))) (and-then ! (load ! (from ! (stop !)) (look ! 10 refl)) (and-then ! (load ! (from ! (stop !)) (look ! 21 refl)) (and-then ! (load ! (from ! (stop !)) (look ! 19 refl)) (and-then ! (load ! (from ! (stop !)) (look ! 6 refl)) (and-then ! (load ! (from ! (stop !)) (look ! 14 refl)) (no-more !)))))) (λ w.
-                use1 W (later (some (λ (c : Q .Denot). some (λ (z′ : Z .Denot). some (λ (zs : Bytes). given (Fact l5 α β δ ε (y .0) (y .1) (y .2) (y .4) (frees z₀ xs n (y .0) (y .1) (y .2) (y .6)) w c z′ zs) (Back l5 α β δ ε (y .0) (y .1) (y .2) (y .4) (frees z₀ xs n (y .0) (y .1) (y .2) (y .6)) z′ zs)))))) (gives-on l5 α β δ ε (y .0) (y .1) (y .2) (y .4) (frees z₀ xs n (y .0) (y .1) (y .2) (y .6)) w) $ await ! tt $ pick ! (λ c. pick ! (λ z′. pick ! (λ zs. learn ! (λ f. split ! $ split ! $ split ! $ split ! $
+                calls-at-last ! (fmOf 𝓤 H (W .laws) 𝓣) On ons (to-on l5 α β δ ε (y .0) (y .1) (y .2) (y .4) (frees z₀ xs n (y .0) (y .1) (y .2) (y .6) more-is)) (and-then ! (load ! (from ! (stop !)) (look ! 10 refl)) (and-then ! (load ! (from ! (stop !)) (look ! 21 refl)) (and-then ! (load ! (from ! (stop !)) (look ! 19 refl)) (and-then ! (load ! (from ! (stop !)) (look ! 6 refl)) (and-then ! (load ! (from ! (stop !)) (look ! 14 refl)) (no-more !)))))) (λ w.
+                use1 W (later (some (λ (c : Q .Denot). some (λ (z′ : Z .Denot). some (λ (zs : Bytes). given (Fact l5 α β δ ε (y .0) (y .1) (y .2) (y .4) (frees z₀ xs n (y .0) (y .1) (y .2) (y .6) more-is) w c z′ zs) (Back l5 α β δ ε (y .0) (y .1) (y .2) (y .4) (frees z₀ xs n (y .0) (y .1) (y .2) (y .6) more-is) z′ zs)))))) (gives-on l5 α β δ ε (y .0) (y .1) (y .2) (y .4) (frees z₀ xs n (y .0) (y .1) (y .2) (y .6) more-is) w) $ await ! tt $ pick ! (λ c. pick ! (λ z′. pick ! (λ zs. learn ! (λ f. split ! $ split ! $ split ! $ split ! $
                 -- α is ended, and the value comes back
                 lft-end ! tt $ move ! (0 ∷ 7 ∷ 3 ∷ []) $ use3 W (later (given (IsZ z′) (‵ (cell Z l5 z′)))) (local-back Z l5 𝓤 H A W Zk (α ∷ []) δ z′) $ await ! tt $ learn ! (λ z′-is.
                 -- β is ended, and `out` comes back

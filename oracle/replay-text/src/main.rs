@@ -23,6 +23,7 @@ const TESTS: &[(&str, Test)] = &[
     ("long lines", pieces::long_lines),
     ("looks at 96 readings", pieces::full_looks),
     ("a read that fails", pieces::unreadable),
+    ("a write that fails", pieces::unwritable),
     ("constant memory", pieces::memory),
     ("any bytes", bytes::any_bytes),
     ("any words", bytes::any_words),

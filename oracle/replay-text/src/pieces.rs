@@ -1,7 +1,7 @@
 //! Input in any pieces, long lines, a conversation, and memory.
-use crate::program::{answer, answers, from, start};
+use crate::program::{answer, answers, between, from, start};
 use common::random::{Random, SEED};
-use std::io::{BufRead, BufReader, Write};
+use std::io::{BufRead, BufReader, Read, Write};
 
 /// A session that is larger than the program's buffers, with looks, errors and comments.
 fn session() -> String {
@@ -179,6 +179,30 @@ pub fn unreadable() -> Result<String, String> {
         return Err(format!("a folder as input: {said:?}"));
     }
     Ok("a folder as input".to_string())
+}
+
+/// A write that fails is said, once, and nothing more is read: what is written to /dev/full is lost.
+pub fn unwritable() -> Result<String, String> {
+    let full = std::fs::File::create("/dev/full").map_err(|error| error.to_string())?;
+    let mut child = between(std::process::Stdio::piped(), full.into())?;
+    let mut stdin = child.stdin.take().ok_or("no pipe")?;
+    // The input stays open: a program that goes on would wait for more of it.
+    stdin
+        .write_all(b"look 9\n")
+        .map_err(|error| error.to_string())?;
+    let mut said = String::new();
+    child
+        .stderr
+        .take()
+        .ok_or("no pipe")?
+        .read_to_string(&mut said)
+        .map_err(|error| error.to_string())?;
+    child.wait().map_err(|error| error.to_string())?;
+    drop(stdin);
+    if said != "replay: an answer could not be written\n" {
+        return Err(format!("a full device as output: {said:?}"));
+    }
+    Ok("a full device as output".to_string())
 }
 
 /// A long session takes no more memory than a short one.

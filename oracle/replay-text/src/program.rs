@@ -20,9 +20,14 @@ pub fn start() -> Result<Child, String> {
 
 /// The program with this as its input.
 pub fn from(input: Stdio) -> Result<Child, String> {
+    between(input, Stdio::piped())
+}
+
+/// The program with these as its input and output.
+pub fn between(input: Stdio, output: Stdio) -> Result<Child, String> {
     Command::new(path())
         .stdin(input)
-        .stdout(Stdio::piped())
+        .stdout(output)
         .stderr(Stdio::piped())
         .spawn()
         .map_err(|error| format!("{}: {error}", path().display()))

@@ -1,7 +1,9 @@
 -- Right because the bytes kept aren't lent to the read, which answers no more than are free.
+use mathlib.Core.Path.{refl}
 use native.Mathlib.Omega.{arith}
-use lib.Seq.{take-at, length-take-le}
+use borrow.Author.Tests.{ltb-true, ltb-false}
 use borrow.Author.Needs.{needs}
+use Rattle.replay.proofs.Keeping.{read-behind}
 use Rattle.replay.proofs.lines.read_after.Statement.{statement}
 use Rattle.replay.proofs.lines.read_after.Tie as tie
 
@@ -20,16 +22,20 @@ read-requires c κs = search needs
 count-requires : tie.Need-count-requires
 count-requires c κs = search needs
 
-add-t7 : tie.Need-add-t7
-add-t7 c = search needs
+add-n : tie.Need-add-n
+add-n c = search needs
+
+wrapping-add-usize-requires : tie.Need-wrapping-add-usize-requires
+wrapping-add-usize-requires c κs = search needs
 
 same-length : tie.Need-same-length
 same-length c = search needs
 
 returns : tie.Need-returns
 returns c =
-    let a = c .before .before .before .before .before .before .before .before .before .before .args in
-    (omega arith, omega (arith, c .before .before .count .ensures), take-at _ _ (a .kept) (length-take-le (a .kept) (a .inp .now) (omega arith)))
+    let n = c .before .before .before .count in
+    let a = c .before .before .before .before .before .before .before .before .before .before .before in
+    (refl, omega (arith, n .ensures, a .pre .0, a .pre .1), read-behind (a .args .inp .now) (c .before .before .before .before .before .before .before .read .last .1 .0) _ (a .args .kept) (n .result) (a .args .got) _ _ (omega (arith, a .pre .0, a .pre .1)) (n .ensures .0 .0) (c .wrapping-add-usize .ensures) (λ m. omega (arith, ltb-false 0 (n .result) m)) (λ m. ltb-true 0 (n .result) m))
 
 pub read-after-spec : {M : Type 1} → statement M
 read-after-spec =
@@ -40,6 +46,7 @@ read-after-spec =
     part-part-end
     read-requires
     count-requires
-    add-t7
+    add-n
+    wrapping-add-usize-requires
     same-length
     returns)

@@ -1,10 +1,7 @@
--- Right because the answer is put at the room made for it, and the next one goes where it ends.
+-- Right because the answer is put at the cursor's place, and the next one goes where it ends.
 use borrow.Author.Needs.{needs}
 use Rattle.replay.proofs.turns.put_look.Statement.{statement}
 use Rattle.replay.proofs.turns.put_look.Tie as tie
-
-room-for-requires : tie.Need-room-for-requires
-room-for-requires c κs = search needs
 
 put-looked-requires : tie.Need-put-looked-requires
 put-looked-requires c κs = search needs
@@ -16,9 +13,9 @@ same-length : tie.Need-same-length
 same-length c = search needs
 
 returns : tie.Need-returns
-returns c = (rw (c .next-line .ensures .0, ← c .before .before .before .before .before .room-for .ensures) (c .before .before .before .put-looked .ensures), c .next-line .ensures .1, c .next-line .ensures .2)
+returns c = (rw (c .next-line .ensures .0) (c .before .before .before .put-looked .ensures), c .next-line .ensures .1, c .next-line .ensures .2)
 
 pub put-look-spec : {M : Type 1} → statement M
 put-look-spec =
     tie.close
-    (tie.spec room-for-requires put-looked-requires next-line-requires same-length returns)
+    (tie.spec put-looked-requires next-line-requires same-length returns)

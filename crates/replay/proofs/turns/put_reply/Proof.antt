@@ -1,10 +1,7 @@
--- Right because the answer is put at the room made for it, and the next one goes where it ends.
+-- Right because the answer is put at the cursor's place, and the next one goes where it ends.
 use borrow.Author.Needs.{needs}
 use Rattle.replay.proofs.turns.put_reply.Statement.{statement}
 use Rattle.replay.proofs.turns.put_reply.Tie as tie
-
-room-for-requires : tie.Need-room-for-requires
-room-for-requires c κs = search needs
 
 time-of-requires : tie.Need-time-of-requires
 time-of-requires c κs = search needs
@@ -22,9 +19,9 @@ returns : tie.Need-returns
 returns c =
     let p = c .before .before .before in
     let t = p .before .before in
-    (rw (c .next-line .ensures .0, ← t .before .room-for .ensures, ← t .time-of .ensures) (p .put-replied .ensures), c .next-line .ensures .1, c .next-line .ensures .2)
+    (rw (c .next-line .ensures .0, ← t .time-of .ensures) (p .put-replied .ensures), c .next-line .ensures .1, c .next-line .ensures .2)
 
 pub put-reply-spec : {M : Type 1} → statement M
 put-reply-spec =
     tie.close
-    (tie.spec room-for-requires time-of-requires put-replied-requires next-line-requires same-length returns)
+    (tie.spec time-of-requires put-replied-requires next-line-requires same-length returns)

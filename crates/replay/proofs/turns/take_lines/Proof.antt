@@ -1,7 +1,7 @@
 -- Right because what is still to be heard, after what was answered, stays the whole read heard (Going); each turn of its loop lends the places and takes them back (LoopWalk).
 use mathlib.Core.Path.{_≡_, refl, sym, subst}
 use mathlib.Core.Bool.{Bool, true, false, not}
-use Prim.Native.Nat.{ℕ}
+use Prim.Native.Nat.{ℕ, _≤_}
 use lib.Dec.{T}
 use lib.ListN.{length, take}
 use mathlib.Core.List.{List, [], _∷_}
@@ -43,7 +43,7 @@ use Rattle.replay.proofs.turns.take_lines.Code as code
 use Rattle.walks.proofs.LoopWalk as walk
 use Rattle.walks.proofs.Structs as array
 use Rattle.station.specs.lent.Lent.{stationOf}
-use Rattle.replay.specs.Limits.{bufferSize}
+use Rattle.replay.specs.Limits.{bufferSize, outputRoom}
 use Rattle.replay.specs.Turns.{firstLine, LinesTaken}
 use Rattle.replay.proofs.Going.{Asks, Went, Going, begins-with, keeps, ends-with}
 
@@ -60,8 +60,8 @@ made ms c = record { motors = ms; cursor = c }
 abbrev Begun : List ℕ → ℕ → Cursor → Type 0
 Begun xs n c = c ≡ firstLine xs n
 
-abbrev Free : List ℕ → Type 0
-Free ys = length ys ≡ bufferSize
+abbrev Free : List ℕ → Cursor → Type 0
+Free ys c = (length ys ≡ bufferSize) × (c .«at» ≤ outputRoom)
 
 abbrev Promised : List Motor → List ℕ → ℕ → Taken → List ℕ → Type 0
 Promised h xs n r zs = LinesTaken (stationOf h) (take n xs) (stationOf (r .motors)) (r .cursor) zs
@@ -77,14 +77,14 @@ T-false false t = refl
 -- the code is that of such a loop
 abbrev the-code : Fn
 the-code =
-    walk.code motors cursor-type.the-row taken-type.the-row (cursor-type.the-type .name) (taken-type.the-type .name) (λ c. c .from) (λ c. c .«end») (λ c. c .«at») (λ c. c .left) (λ c. c .more) (λ c. c .good) made
+    walk.code motors cursor-type.the-row taken-type.the-row (cursor-type.the-type .name) (taken-type.the-type .name) (λ c. c .from) (λ c. c .«end») (λ c. c .«at») (λ c. c .left) (λ c. c .more) (λ c. c .full) made
     Asks Begun Free Went Going Promised begin-def.name on-def.name
 
 code-is : code.function ≡ the-code
 code-is = refl
 
 abbrev cursor-val : Cursor → Val
-cursor-val c = walk.cursorVal (c .from) (c .«end») (c .«at») (c .left) (c .more) (c .good)
+cursor-val c = walk.cursorVal (c .from) (c .«end») (c .«at») (c .left) (c .more) (c .full)
 
 module _ {M : Type 1} (𝓤 : URA M) (H : Heap 𝓤) (A : Atoms 𝓤) (W : Given 𝓤 H A) where
   cursors : walk.Cursors 𝓤 H A cursor-type.the-row (cursor-type.the-type .name) cursor-val
@@ -106,8 +106,8 @@ module _ {M : Type 1} (𝓤 : URA M) (H : Heap 𝓤) (A : Atoms 𝓤) (at-mem : 
       → Triple 𝓤 (𝓣 .C on-def.name) (tripleOf 𝓤 H A on.signature (on.spec 𝓤 H A at-mem run)) → Meets 𝓤 H A own.signature (WpFn 𝓤 H (𝓣 .C) (𝓣 .Λ) code.function) (own.spec 𝓤 H A at-mem run)
   meets W 𝓣 begins ons =
       subst (λ (f : Fn). Meets 𝓤 H A own.signature (WpFn 𝓤 H (𝓣 .C) (𝓣 .Λ) f) (own.spec 𝓤 H A at-mem run)) (sym code-is)
-      (walk.meets motors cursor-type.the-row taken-type.the-row (cursor-type.the-type .name) (taken-type.the-type .name) (λ c. c .from) (λ c. c .«end») (λ c. c .«at») (λ c. c .left) (λ c. c .more) (λ c. c .good) made
-      Asks Begun Free Went Going Promised 𝓤 H A W (λ z z′ xs n zs zs′ c r x. x .2) begins-with (λ z₀ xs n z c zs g. g .buffer) (λ z₀ xs n z z′ zs zs′ c r g m x. keeps z₀ xs n z z′ zs zs′ c r g (T-true (c .more) m) x)
+      (walk.meets motors cursor-type.the-row taken-type.the-row (cursor-type.the-type .name) (taken-type.the-type .name) (λ c. c .from) (λ c. c .«end») (λ c. c .«at») (λ c. c .left) (λ c. c .more) (λ c. c .full) made
+      Asks Begun Free Went Going Promised 𝓤 H A W (λ z z′ xs n zs zs′ c r x. x .2) begins-with (λ z₀ xs n z c zs g m. (g .buffer, g .at-line .room (T-true (c .more) m))) (λ z₀ xs n z z′ zs zs′ c r g m x. keeps z₀ xs n z z′ zs zs′ c r g (T-true (c .more) m) x)
       (λ z₀ xs n z c zs g m. ends-with z₀ xs n z c zs g (T-false (c .more) m)) (array.structs-known motor-type.the-type motor-laws.the-laws 8 𝓤 H A W motor-laws.the-plain) (cursors 𝓤 H A W) (takes 𝓤 H A W) begin-def.name on-def.name 𝓣 begins ons)
 
 pub take-lines-spec : {M : Type 1} → stated.statement M

@@ -1,11 +1,8 @@
--- Right because `fresh` gives a new station, and the text is put at the room made for it.
+-- Right because `fresh` gives a new station, and the text is put at the cursor's place.
 use Rattle.replay.specs.Events.{stationOfOther}
 use borrow.Author.Needs.{needs}
 use Rattle.replay.proofs.turns.take_other.Statement.{statement}
 use Rattle.replay.proofs.turns.take_other.Tie as tie
-
-room-for-requires : tie.Need-room-for-requires
-room-for-requires c κs = search needs
 
 put-other-requires : tie.Need-put-other-requires
 put-other-requires c κs = search needs
@@ -28,7 +25,7 @@ returns c =
     let i = c .before .before .before in
     let p = i .before in (
       rw (← i .is-fresh .ensures, c .before .before .if1 .taken) (c .before .new .ensures .0),
-      rw (p .next-line .ensures .0, ← p .before .before .before .before .before .room-for .ensures) (p .before .before .before .put-other .ensures),
+      rw (p .next-line .ensures .0) (p .before .before .before .put-other .ensures),
       p .next-line .ensures .1,
       p .next-line .ensures .2,
     )
@@ -42,7 +39,7 @@ returns-2 c =
     let i = c .before in
     let p = i .before in (
       rw (← i .is-fresh .ensures, c .if1 .left),
-      rw (p .next-line .ensures .0, ← p .before .before .before .before .before .room-for .ensures) (p .before .before .before .put-other .ensures),
+      rw (p .next-line .ensures .0) (p .before .before .before .put-other .ensures),
       p .next-line .ensures .1,
       p .next-line .ensures .2,
     )
@@ -51,7 +48,6 @@ pub take-other-spec : {M : Type 1} → statement M
 take-other-spec =
     tie.close
     (tie.spec
-    room-for-requires
     put-other-requires
     next-line-requires
     is-fresh-requires
