@@ -2,7 +2,7 @@
 -- A float on the right of a row is a literal: were both sides calls, antt would compare the calls and not their values.
 use mathlib.Core.Path.{_≡_, refl}
 use mathlib.Core.Bool.{false}
-use mathlib.Core.List.{List, [], _∷_}
+use mathlib.Core.List.{List, [], _∷_, map}
 use Prim.Native.Nat.{ℕ}
 use lib.IntN.{pos, negsuc}
 use lib.Ieee.{Float, nan, fin, toUnsigned, mul, add, sub, div, neg, lt, ofInt, ofBits}
@@ -32,13 +32,16 @@ pub data Row : Type 0 where
   command : MitCommand → MitCommand → Row
   value : ParameterValue → ParameterValue → Row
 
-abbrev pub Holds : List Row → Type 0
-Holds [] = Unit
-Holds (number a b ∷ rows) = (a ≡ b) × Holds rows
-Holds (float a b ∷ rows) = (a ≡ b) × Holds rows
-Holds (bytes a b ∷ rows) = (a ≡ b) × Holds rows
-Holds (command a b ∷ rows) = (a ≡ b) × Holds rows
-Holds (value a b ∷ rows) = (a ≡ b) × Holds rows
+-- the row with what is really so
+abbrev pub actual : Row → Row
+actual (number a b) = number a a
+actual (float a b) = float a a
+actual (bytes a b) = bytes a a
+actual (command a b) = command a a
+actual (value a b) = value a a
+
+abbrev pub RowsHold : List Row → Type 0
+RowsHold rows = map actual rows ≡ rows
 
 abbrev pub examples : List Row
 examples =
@@ -59,6 +62,6 @@ examples =
     ∷ value (decodeReadParameterValue 0x7005 (0x05 ∷ 0x70 ∷ 0 ∷ 0 ∷ 2 ∷ 0 ∷ 0 ∷ 0 ∷ [])) (I8 (pos 2))
     ∷ []
 
-pub examples-hold : Holds examples
+pub examples-hold : RowsHold examples
 unfolding motionRaw gainRaw statusValue temperatureOf clamp toUnsigned mul add sub div neg lt ofInt ofBits parameterInfo kindOf among listedIds int8Ids
-examples-hold = (refl, (refl, (refl, (refl, (refl, (refl, (refl, (refl, (refl, (refl, (refl, (refl, (refl, (refl, (refl, tt)))))))))))))))
+examples-hold = refl

@@ -10,7 +10,7 @@ use borrow.Author.Tests.{eqb-false}
 use Rattle.codec.specs.declared.bus.CanFrame.{CanFrame}
 use Rattle.codec.specs.declared.error.Checked.{Checked}
 use Rattle.codec.specs.declared.error.Checked.the-variants.{Passed, Refused}
-use Rattle.codec.specs.declared.error.Refusal.the-variants.{ReadFailed, ReadingsFull}
+use Rattle.codec.specs.declared.error.Refusal.the-variants.{FrameNotAccepted, ReadFailed, ReadingsFull}
 use Rattle.codec.specs.declared.protocol.IdParts.{IdParts}
 use Rattle.codec.specs.Kinds.{among}
 use Rattle.motor.specs.declared.edits.Edit.{Edit}
@@ -26,9 +26,9 @@ use Rattle.motor.specs.declared.readings.PutAnswer.the-variants.{Kept, F
 use Rattle.motor.specs.declared.readings.PutResult.{PutResult}
 use Rattle.motor.specs.Limits.{mostReadings}
 use Rattle.motor.specs.Readings.{freeRecord, reading, entryAt, storedAt, withNext, kept, fullOf, addAt, putAt, putOf, holderOf, isRecord, siteOf}
-use Rattle.motor.specs.Receive.{partsOf, acceptsFrame, isOutOfTime, countedAt, toldBy, isRead, statusIn, readStatus, readId, readStored, frameSaid, stateAfter, readingsAfter, heardWith, processFeedbackFrame}
-use Rattle.motor.specs.Edits.{editedBy, noEdit, addEdit, putEditAt, putEdit, readKept, hearRead}
-use Rattle.motor.proofs.Receiving.{read-tells, admittedTo, admitted-13, admitted-7, admitted}
+use Rattle.motor.specs.Receive.{partsOf, acceptsFrame, isOutOfTime, countedAt, isRead, statusIn, readStatus, readId, readStored, frameSaid, stateAfter, readingsAfter, heardWith, processFeedbackFrame, frameAdmitted}
+use Rattle.motor.specs.Edits.{editedBy, noEdit, addEdit, putEditAt, putEdit, readKept, isReply, hearRead}
+use Rattle.motor.proofs.Receiving.{read-tells, admittedTo, admitted-13, admitted-7, admitted, admitted-where}
 use Rattle.motor.proofs.Sites.{site-before, site-next, site-free, site-after, site-head, holder-same, holder-there}
 
 -- a record stored goes on to where it goes
@@ -75,11 +75,11 @@ edits-after Passed f rs e = go (isRead f)
     go true = refl
     go false = sym (no-edit rs)
 
--- its edit stored, the readings are those of the by-value call
-pub heard-read : (m : Motor) (f : CanFrame) (now : ℕ)
+-- of a read reply: its edit stored, the readings are those of the by-value call
+pub heard-read : (m : Motor) (f : CanFrame) (now : ℕ) → isRead f ≡ true
     → processFeedbackFrame m f now ≡ heardWith (hearRead m f now .state) (editedBy (m .readings) (hearRead m f now .edit)) (hearRead m f now .said)
 unfolding processFeedbackFrame hearRead
-heard-read m f now = rw (← edit-puts (m .readings) (readId f) (readStored f), edits-after)
+heard-read m f now r = rw (r, ← edit-puts (m .readings) (readId f) (readStored f), edits-after)
 
 abbrev pub putHere : Motor → CanFrame → PutEdit
 putHere m f = putEdit (siteOf (m .readings) (readId f)) (readId f) (readStored f)
@@ -95,23 +95,45 @@ readTaken state m status f =
     cond (eqb status 0) (readPut state (m .readings) (putHere m f .edit) (putHere m f .said)) (readKept state (m .readings) (Refused (ReadFailed (readId f) status)))
 
 abbrev pub hearReadBy : Checked → Motor → IdParts → CanFrame → ℕ → ReadHeard
-hearReadBy Passed m p f now =
-    cond (eqb (p .«comm_type») 17) (readTaken (countedAt (m .state) now) m (statusIn p) f) (readKept (toldBy (countedAt (m .state) now) p f) (m .readings) Passed)
+hearReadBy Passed m p f now = readTaken (countedAt (m .state) now) m (statusIn p) f
 hearReadBy (Refused r) m p f now = readKept (m .state) (m .readings) (Refused r)
 
--- a frame by its admission, its type and its status
-pub read-by : (m : Motor) (f : CanFrame) (now : ℕ) → hearRead m f now ≡ hearReadBy (admittedTo (m .state) (partsOf f) f now) m (partsOf f) f now
-unfolding hearRead frameSaid stateAfter readingsAfter among readStatus isRead
-read-by m f now = go (acceptsFrame (m .state .«motor_id») f) (isOutOfTime (m .state .clock) now) (isRead f) (eqb (readStatus f) 0) (putHere m f .said) refl refl refl refl refl
+-- a read reply by its admission and its status
+read-by : (m : Motor) (f : CanFrame) (now : ℕ) → isRead f ≡ true → hearRead m f now ≡ hearReadBy (admittedTo (m .state) (partsOf f) f now) m (partsOf f) f now
+unfolding hearRead frameSaid stateAfter readingsAfter among readStatus
+read-by m f now t = go (acceptsFrame (m .state .«motor_id») f) (isOutOfTime (m .state .clock) now) (eqb (readStatus f) 0) (putHere m f .said) refl refl refl refl
   where
     by : Checked → Type 0
     by k = hearRead m f now ≡ hearReadBy k m (partsOf f) f now
 
-    go : (a l r z : Bool) (k : PutAnswer) → acceptsFrame (m .state .«motor_id») f ≡ a → isOutOfTime (m .state .clock) now ≡ l → isRead f ≡ r → eqb (readStatus f) 0 ≡ z
+    go : (a l z : Bool) (k : PutAnswer) → acceptsFrame (m .state .«motor_id») f ≡ a → isOutOfTime (m .state .clock) now ≡ l → eqb (readStatus f) 0 ≡ z
         → putHere m f .said ≡ k → by (admittedTo (m .state) (partsOf f) f now)
-    go false l r z k p q t s e = subst by (sym (admitted-13 (m .state) f now p)) (rw p)
-    go true true r z k p q t s e = subst by (sym (admitted-7 (m .state) f now p q)) (rw (p, q))
-    go true false false z k p q t s e = subst by (sym (admitted (m .state) f now p q)) (rw (p, q, t, t))
-    go true false true false k p q t s e = subst by (sym (admitted (m .state) f now p q)) (rw (p, q, t, s))
-    go true false true true Kept p q t s e = subst by (sym (admitted (m .state) f now p q)) (rw (p, q, t, s, e, t, read-tells (countedAt (m .state) now) f t))
-    go true false true true Full p q t s e = subst by (sym (admitted (m .state) f now p q)) (rw (p, q, t, s, e))
+    go false l z k p q s e = subst by (sym (admitted-13 (m .state) f now p)) (rw (t, p))
+    go true true z k p q s e = subst by (sym (admitted-7 (m .state) f now p q)) (rw (t, p, q))
+    go true false false k p q s e = subst by (sym (admitted (m .state) f now p q)) (rw (t, p, q, s))
+    go true false true Kept p q s e = subst by (sym (admitted (m .state) f now p q)) (rw (t, p, q, s, e, t, read-tells (countedAt (m .state) now) f t))
+    go true false true Full p q s e = subst by (sym (admitted (m .state) f now p q)) (rw (t, p, q, s, e))
+
+module _ (m : Motor) (f : CanFrame) (now : ℕ) where
+  abbrev replying : Checked
+  replying = frameAdmitted (m .state .«motor_id») (m .state .clock) (isReply (f .«is_extended») (partsOf f)) (partsOf f) now
+
+  -- any other frame is 13, and a read reply is admitted as it is
+  reply-13 : isRead f ≡ false → replying ≡ Refused FrameNotAccepted
+  unfolding isReply isRead
+  reply-13 r = admitted-where (m .state) f now (isRead f) ∙ rw r
+
+  reply-same : isRead f ≡ true → replying ≡ admittedTo (m .state) (partsOf f) f now
+  unfolding isReply isRead
+  reply-same r = admitted-where (m .state) f now (isRead f) ∙ rw r
+
+  untaken : isRead f ≡ false → hearRead m f now ≡ readKept (m .state) (m .readings) (Refused FrameNotAccepted)
+  unfolding hearRead
+  untaken r = rw r
+
+  pub read-heard-by : hearRead m f now ≡ hearReadBy replying m (partsOf f) f now
+  read-heard-by = go (isRead f) refl
+    where
+      go : (b : Bool) → isRead f ≡ b → hearRead m f now ≡ hearReadBy replying m (partsOf f) f now
+      go true r = read-by m f now r ∙ sym (ap (λ (k : Checked). hearReadBy k m (partsOf f) f now) (reply-same r))
+      go false r = untaken r ∙ sym (ap (λ (k : Checked). hearReadBy k m (partsOf f) f now) (reply-13 r))

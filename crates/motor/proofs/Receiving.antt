@@ -1,7 +1,7 @@
 -- What a motor answers to a frame, case by case in the numbers' order. Assumes nothing.
 use Prim.Native.Nat.{ℕ}
 use mathlib.Core.Path.{_≡_, refl, sym, ap, subst, _∙_}
-use mathlib.Core.Bool.{Bool, true, false}
+use mathlib.Core.Bool.{Bool, true, false, cond, not, _&&_}
 use borrow.Author.Tests.{eqb-true, eq-eqb, ne-eqb}
 use Rattle.codec.specs.declared.bus.CanFrame.{CanFrame}
 use Rattle.codec.specs.declared.error.Refusal.the-variants.{FrameNotAccepted, TimeOutOfRange, ReadFailed, ReadingsFull}
@@ -71,6 +71,17 @@ module _ (s : State) (f : CanFrame) (now : ℕ) where
   unfolding frameAdmitted acceptsFrame
   admitted a l = rw (a, l)
 
+  -- where one more test is made with the first, what fails it is 13
+  pub admitted-where : (b : Bool) → frameAdmitted (s .«motor_id») (s .clock) (f .«is_extended» && b) (partsOf f) now ≡ cond b (admittedTo s (partsOf f) f now) (Refused FrameNotAccepted)
+  unfolding frameAdmitted
+  admitted-where b = go (f .«is_extended») b
+    where
+      go : (e b : Bool) → frameAdmitted (s .«motor_id») (s .clock) (e && b) (partsOf f) now ≡ cond b (frameAdmitted (s .«motor_id») (s .clock) e (partsOf f) now) (Refused FrameNotAccepted)
+      go true true = refl
+      go true false = refl
+      go false true = refl
+      go false false = refl
+
 -- ---- the state alone
 
 state-untaken : (s : State) (f : CanFrame) (now : ℕ) → isRead f ≡ true → hearState s f now ≡ stateHeard s (Refused FrameNotAccepted)
@@ -100,20 +111,12 @@ module _ (s : State) (f : CanFrame) (now : ℕ) where
 
   -- a read reply is 13, and any other frame is admitted as it is
   quiet-13 : isRead f ≡ true → quietly ≡ Refused FrameNotAccepted
-  unfolding frameAdmitted isQuiet isRead
-  quiet-13 r = go (f .«is_extended»)
-    where
-      go : (e : Bool) → frameAdmitted (s .«motor_id») (s .clock) (isQuiet e (partsOf f)) (partsOf f) now ≡ Refused FrameNotAccepted
-      go true = rw r
-      go false = refl
+  unfolding isQuiet isRead
+  quiet-13 r = admitted-where s f now (not (isRead f)) ∙ rw r
 
   quiet-same : isRead f ≡ false → quietly ≡ admittedTo s (partsOf f) f now
-  unfolding frameAdmitted isQuiet isRead
-  quiet-same r = go (f .«is_extended»)
-    where
-      go : (e : Bool) → frameAdmitted (s .«motor_id») (s .clock) (isQuiet e (partsOf f)) (partsOf f) now ≡ frameAdmitted (s .«motor_id») (s .clock) e (partsOf f) now
-      go true = rw r
-      go false = refl
+  unfolding isQuiet isRead
+  quiet-same r = admitted-where s f now (not (isRead f)) ∙ rw r
 
   pub state-heard-by : hearState s f now ≡ hearStateBy quietly s (partsOf f) f now
   state-heard-by = go (isRead f) refl

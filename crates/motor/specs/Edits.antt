@@ -1,9 +1,11 @@
--- Edits: what a frame stores of the readings, and what it answers. Definitions only.
+-- Edits: what a read reply stores of the readings, and what it answers. Definitions only.
 use Prim.Native.Nat.{ℕ}
-use mathlib.Core.Bool.{cond}
+use mathlib.Core.Bool.{Bool, cond, _&&_}
 use lib.Dec.{eqb}
 use Rattle.codec.specs.declared.bus.CanFrame.{CanFrame}
 use Rattle.codec.specs.declared.error.Checked.{Checked}
+use Rattle.codec.specs.declared.error.Checked.the-variants.{Refused}
+use Rattle.codec.specs.declared.protocol.IdParts.{IdParts}
 use Rattle.motor.specs.declared.engine.reading.Stored.{Stored}
 use Rattle.motor.specs.declared.motor.State.{State}
 use Rattle.motor.specs.declared.motor.Motor.{Motor}
@@ -15,7 +17,8 @@ use Rattle.motor.specs.declared.edits.Edit.{Edit}
 use Rattle.motor.specs.declared.edits.PutEdit.{PutEdit}
 use Rattle.motor.specs.declared.edits.ReadHeard.{ReadHeard}
 use Rattle.motor.specs.Readings.{entry, reading, recAt, storedAt, withNext, isRecord, siteOf, holderIn}
-use Rattle.motor.specs.Receive.{readId, readStored, frameSaid, isFull, stateAfter, readingsAfter}
+use Rattle.motor.specs.Numbers.{plain}
+use Rattle.motor.specs.Receive.{isRead, readId, readStored, frameSaid, isFull, stateAfter, readingsAfter}
 
 -- the readings once the edit is stored
 unfoldable pub editedBy : Readings → Edit → Readings
@@ -57,7 +60,11 @@ putEditAt site id s n = cond (eqb n 0) (addEdit site id s) (keptEdit (replaceEdi
 abbrev pub putEdit : Site → ℕ → Stored → PutEdit
 putEdit site id s = putEditAt site id s (holderIn site id)
 
--- ---- a frame: the receive rule, with an edit in place of the readings
+-- ---- a read reply: the receive rule, with an edit in place of the readings; any other frame isn't taken
+
+-- extended, and a read reply
+unfoldable pub isReply : Bool → IdParts → Bool
+isReply extended p = extended && eqb (p .«comm_type») 17
 
 abbrev pub readKept : State → Readings → Checked → ReadHeard
 readKept state rs said = record { state = state; edit = noEdit rs; said = said }
@@ -66,4 +73,5 @@ unfoldable pub hearRead : Motor → CanFrame → ℕ → ReadHeard
 hearRead m f now =
     let put = putEdit (siteOf (m .readings) (readId f)) (readId f) (readStored f) in
     let said = frameSaid (m .state) f now (isFull (put .said)) in
-    record { state = stateAfter said (m .state) f now; edit = readingsAfter said f (put .edit) (noEdit (m .readings)); said = said }
+    let heard : ReadHeard = record { state = stateAfter said (m .state) f now; edit = readingsAfter said f (put .edit) (noEdit (m .readings)); said = said } in
+    cond (isRead f) heard (readKept (m .state) (m .readings) (Refused (plain 13)))

@@ -3,7 +3,7 @@
 use Prim.Native.Nat.{ℕ}
 use mathlib.Core.Path.{_≡_}
 use mathlib.Core.Bool.{true, false}
-use mathlib.Core.List.{List, [], _∷_}
+use mathlib.Core.List.{List, [], _∷_, map}
 use Rattle.codec.specs.declared.bus.CanFrame.{CanFrame}
 use Rattle.codec.specs.declared.error.Checked.{Checked}
 use Rattle.codec.specs.declared.error.Checked.the-variants as checked
@@ -120,11 +120,14 @@ pub data Row : Type 0 where
   readings : List Entry → List Entry → Row
   removal : Checked → Checked → Row
 
+-- the row with what is really so
+abbrev pub actual : Row → Row
+actual (run l inputs answers) = run l inputs (runs l inputs)
+actual (number a b) = number a a
+actual (gains a b) = gains a a
+actual (fault a b) = fault a a
+actual (readings a b) = readings a a
+actual (removal a b) = removal a a
+
 abbrev pub RowsHold : List Row → Type 0
-RowsHold [] = Unit
-RowsHold (run l inputs answers ∷ rows) = (runs l inputs ≡ answers) × RowsHold rows
-RowsHold (number a b ∷ rows) = (a ≡ b) × RowsHold rows
-RowsHold (gains a b ∷ rows) = (a ≡ b) × RowsHold rows
-RowsHold (fault a b ∷ rows) = (a ≡ b) × RowsHold rows
-RowsHold (readings a b ∷ rows) = (a ≡ b) × RowsHold rows
-RowsHold (removal a b ∷ rows) = (a ≡ b) × RowsHold rows
+RowsHold rows = map actual rows ≡ rows

@@ -203,4 +203,4 @@ modes =
 
 pub modes-hold : RowsHold modes
 unfolding runs hears frameSaid stateAfter readingsAfter acceptsFrame isOutOfTime countedAt toldBy pingAfter nextSequence feedbackAfter faultAfter isRead readStatus readId readStored among listedIds int8Ids kindOf parameterInfo hostCandidates isMode
-modes-hold = (refl, (refl, (refl, (refl, (refl, (refl, (refl, tt)))))))
+modes-hold = refl

@@ -85,7 +85,7 @@ refusals =
 
 pub refusals-hold : RowsHold refusals
 unfolding runs afterInputs hears frameSaid stateAfter readingsAfter acceptsFrame isOutOfTime countedAt toldBy pingAfter nextSequence feedbackAfter faultAfter isRead readStatus readId readStored among listedIds int8Ids kindOf parameterInfo
-refusals-hold = (refl, (refl, (refl, (refl, (refl, (refl, (refl, tt)))))))
+refusals-hold = refl
 
 -- ---- frames
 
@@ -131,4 +131,4 @@ frames =
 
 pub frames-hold : RowsHold frames
 unfolding runs afterInputs chain.run hears frameSaid stateAfter readingsAfter acceptsFrame isOutOfTime countedAt toldBy pingAfter nextSequence feedbackAfter faultAfter isRead readStatus readId readStored among listedIds int8Ids kindOf parameterInfo
-frames-hold = (refl, (refl, (refl, (refl, (refl, (refl, (refl, (refl, (refl, (refl, tt))))))))))
+frames-hold = refl

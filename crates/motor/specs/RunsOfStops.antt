@@ -61,7 +61,7 @@ written =
 
 pub written-hold : RowsHold written
 unfolding runs hears frameSaid stateAfter readingsAfter acceptsFrame isOutOfTime countedAt toldBy pingAfter nextSequence feedbackAfter faultAfter isRead readStatus readId readStored among listedIds int8Ids uint8Ids uint16Ids uint32Ids kindOf parameterInfo controlModeFromRaw
-written-hold = (refl, (refl, (refl, (refl, (refl, tt)))))
+written-hold = refl
 
 -- ---- mode 0 sends the angle that it reads (4π) as a motion command
 
@@ -121,4 +121,4 @@ moved =
 
 pub moved-hold : RowsHold moved
 unfolding runs afterInputs hears frameSaid stateAfter readingsAfter acceptsFrame isOutOfTime countedAt toldBy pingAfter nextSequence feedbackAfter faultAfter isRead readStatus readId readStored among listedIds int8Ids uint8Ids uint16Ids uint32Ids kindOf parameterInfo controlModeFromRaw stopGain motionRaw gainRaw clamp toUnsigned mul add sub div neg lt ofInt ofBits toBits
-moved-hold = (refl, (refl, (refl, (refl, (refl, (refl, (refl, (refl, tt))))))))
+moved-hold = refl

@@ -78,7 +78,7 @@ acknowledgements =
 
 pub acknowledgements-hold : RowsHold acknowledgements
 unfolding runs afterInputs hears frameSaid stateAfter readingsAfter acceptsFrame isOutOfTime countedAt toldBy pingAfter nextSequence feedbackAfter faultAfter isRead readStatus readId readStored among listedIds int8Ids uint8Ids kindOf parameterInfo hostCandidates
-acknowledgements-hold = (refl, (refl, (refl, (refl, (refl, (refl, (refl, (refl, (refl, (refl, (refl, (refl, (refl, (refl, (refl, tt)))))))))))))))
+acknowledgements-hold = refl
 
 -- ---- reads and pings
 
@@ -137,4 +137,4 @@ values =
 
 pub values-hold : RowsHold values
 unfolding runs afterInputs hears frameSaid stateAfter readingsAfter acceptsFrame isOutOfTime countedAt toldBy pingAfter nextSequence feedbackAfter faultAfter isRead readStatus readId readStored among listedIds int8Ids uint8Ids kindOf parameterInfo controlModeFromRaw hostCandidates
-values-hold = (refl, (refl, (refl, (refl, (refl, (refl, (refl, (refl, (refl, (refl, (refl, (refl, (refl, (refl, (refl, (refl, (refl, (refl, tt))))))))))))))))))
+values-hold = refl

@@ -37,7 +37,7 @@ writes =
 
 pub writes-hold : RowsHold writes
 unfolding runs hears frameSaid stateAfter readingsAfter acceptsFrame isOutOfTime countedAt toldBy pingAfter nextSequence feedbackAfter faultAfter isRead readStatus readId readStored among listedIds int8Ids uint8Ids uint16Ids uint32Ids kindOf parameterInfo hostCandidates
-writes-hold = (refl, (refl, (refl, (refl, tt))))
+writes-hold = refl
 
 abbrev pub positions : List Row
 positions =
@@ -128,4 +128,4 @@ positions =
 
 pub positions-hold : RowsHold positions
 unfolding runs hears frameSaid stateAfter readingsAfter acceptsFrame isOutOfTime countedAt toldBy pingAfter nextSequence feedbackAfter faultAfter isRead readStatus readId readStored among listedIds int8Ids uint8Ids uint16Ids uint32Ids kindOf parameterInfo hostCandidates absOf
-positions-hold = (refl, (refl, (refl, (refl, (refl, (refl, (refl, (refl, tt))))))))
+positions-hold = refl

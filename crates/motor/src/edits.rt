@@ -16,15 +16,15 @@ use crate::receive::is_read;
 use crate::receive::read_id;
 use crate::receive::read_stored;
 use crate::receive::status_in;
-use crate::receive::told_by;
 use codec::bus::CanFrame;
 use codec::error::Checked;
 use codec::error::Refusal;
+use codec::protocol::IdParts;
 use codec::protocol::ext_id_parts;
 ghost use mathlib.Core.Path.{_≡_};
 ghost use Prim.Native.Nat.{_≤_, _<_};
 ghost use Rattle.motor.specs.Limits.{mostReadings, mostRecords};
-ghost use Rattle.motor.specs.Edits.{editedBy, headEdit, addEdit, putEdit, readKept, hearRead};
+ghost use Rattle.motor.specs.Edits.{editedBy, headEdit, addEdit, putEdit, readKept, isReply, hearRead};
 
 // What is to be stored of the readings: record `first` is `one`; then record `second` goes on to `link`; `free` is the first free record.
 pub struct Edit {
@@ -144,22 +144,30 @@ fn read_kept(state: State, rs: Readings, said: Checked) -> ReadHeard
     ReadHeard { state, edit, said }
 }
 
-// A frame at a time: 13 and 7 change nothing; else it is counted, and held by its type. Of a read reply 14 and 15 store nothing,
-// and a value is put.
+// Extended, and a read reply.
+fn is_reply(extended: bool, parts: IdParts) -> bool
+    ensures { λ r. ⌜ r ≡ isReply extended parts ⌝ }
+{
+    if !extended {
+        return false;
+    }
+    is_read(parts)
+}
+
+// A read reply at a time: 13 and 7 change nothing; else it is counted, 14 and 15 store nothing, and a value is put. Any other frame
+// is 13, and changes nothing.
 pub fn hear_read(m: Motor, frame: CanFrame, now: u64) -> ReadHeard
     ensures { λ r. ⌜ (r ≡ hearRead m frame now) × (r .edit .first < mostRecords) × (r .edit .second < mostRecords) ⌝ }
 {
     let s = m.state;
     let rs = m.readings;
     let parts = ext_id_parts(frame.arbitration_id);
-    let admitted = frame_admitted(s.motor_id, s.clock, frame.is_extended, parts, now);
+    let reply = is_reply(frame.is_extended, parts);
+    let admitted = frame_admitted(s.motor_id, s.clock, reply, parts, now);
     if let Checked::Refused(refusal) = admitted {
         return read_kept(s, rs, Checked::Refused(refusal));
     }
     let state = counted_at(s, now);
-    if !is_read(parts) {
-        return read_kept(told_by(state, parts, frame), rs, Checked::Passed);
-    }
     let id = read_id(frame);
     let status = status_in(parts);
     if status != 0 {

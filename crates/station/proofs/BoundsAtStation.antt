@@ -1,6 +1,6 @@
 -- The bounds of an operation on the station: to the motor m a list of calls is a list of its own events, every other call being none of
 -- them (demand 3, call by call), so the motor's theorem bounds it. Assumes nothing.
-use Prim.Native.Nat.{ℕ, _+_, _≤_}
+use Prim.Native.Nat.{ℕ, _+_, _≤_, _<_}
 use mathlib.Core.Path.{_≡_, refl, sym, ap, _∙_, subst}
 use mathlib.Core.Bool.{Bool, true, false, true≢false, cond, not, _&&_}
 use mathlib.Core.List.{List, [], _∷_, _++_}
@@ -14,12 +14,15 @@ use Rattle.codec.specs.declared.model.Model.{Model}
 use Rattle.codec.specs.declared.model.ModelNamed.{ModelNamed}
 use Rattle.codec.specs.declared.model.ModelNamed.the-variants as named
 use Rattle.motor.specs.declared.engine.command.Command.{Command}
+use Rattle.motor.specs.declared.engine.command.Said.{Said}
+use Rattle.motor.specs.declared.engine.command.Said.the-variants as said
 use Rattle.motor.specs.Bounds.{LoneEvent, start as started, step as stepped, frame as heard, other as none-of-it, afterEvent as then, hasFrame, sends, isDue, once, count, mostFramesOf, afterEvents, Given}
 use Rattle.motor.specs.Calls.{isIdle}
 use Rattle.motor.specs.Limits.{mostDueSteps}
 use Rattle.motor.specs.Lone.{Lone, loneNew, loneStart, loneStep, loneRemoval}
 use Rattle.motor.proofs.Bounds.{bounds}
 use Rattle.station.specs.declared.call.Answer.{Answer}
+use Rattle.station.specs.declared.call.Answer.the-variants as answer
 use Rattle.station.specs.declared.call.Asked.{Asked}
 use Rattle.station.specs.declared.call.Call.{Call}
 use Rattle.station.specs.declared.call.Call.the-variants as call
@@ -27,11 +30,34 @@ use Rattle.station.specs.Calls.{start, step, Reply, refused}
 use Rattle.station.specs.Station.{Place, empty, held, full, Distinct, movesTo, hearsTo, leaves, loneBy, lone, route, admission, enter, admit, sourceOf, stationBy, stationCall}
 use Rattle.station.specs.History.{mineBy, mine, after}
 use Rattle.station.specs.Demand2.{unrefused}
-use Rattle.station.specs.StationBounds.{runsIn, sendsIn, dueIn, sendsTo, dueTo, tally, DueOf, StationBounds}
+use Rattle.station.specs.StationBounds.{runsIn, sendsIn, dueIn, sendsTo, dueTo, tally, DueOf, pausesIn, StationBounds}
 use Rattle.station.proofs.EchoAtStation.{began}
 use Rattle.station.proofs.Places.{same-id, own-id, held-add, distinct-free}
 use Rattle.station.proofs.Steps.{other, own-call, accepts-source, call-distinct, passes}
 use Rattle.station.proofs.TwoRuns.{after-distinct}
+
+-- ---- pauses: a step of m is the lone motor's
+
+moved-same : (s t : Said) → answer.Moved s ≡ answer.Moved t → s ≡ t
+moved-same s t e = ap said-in e
+  where
+    said-in : Answer → Said
+    said-in (answer.Told k) = s
+    said-in (answer.Moved x) = x
+    said-in (answer.Looked k) = s
+
+waits-pausing : (before : List Asked) (m : ℕ) (h : Lone) (now d : ℕ)
+    → let a = stationCall (after empty before) (step m now) in
+    held (after empty before) m ≡ some h
+    → h .state .operation .due ≤ now
+    → a .0 .replied .answer ≡ answer.Moved (said.Waiting d)
+    → (now < d) × (h .state .operation .due < d) × (pausesIn (held (a .1) m) ≡ true)
+unfolding loneBy movesTo empty mineBy
+waits-pausing before m h now d e due w =
+    let l = own-call (after empty before) m h (step m now) (after-distinct empty before (distinct-free 8)) e (own-id m) in
+    let q = moved-same (loneStep h now .said) (said.Waiting d) (sym (ap (λ (r : Reply). r .replied .answer) (l .0)) ∙ w) in
+    let x = bounds .waits h now d due q in
+    (x .0, x .1, ap pausesIn (l .1) ∙ x .2)
 
 -- ---- a call of m's as an event of the lone motor
 
@@ -282,4 +308,12 @@ module _ (before : List Asked) (m : ℕ) where
           rw (l .0, l .1) (subst (λ (k : Lone). Given now (loneStep k now)) (x .is) (bounds .stepped (x .id) (x .host) (x .model) (x .wait) (x .since) (x .events) now))
 
 pub station-bounds : StationBounds
-station-bounds = record { frames = frames-within; limits = bounds .limits; steps = steps-within; started = due-started; stepped = due-stepped }
+station-bounds =
+    record {
+      frames = frames-within;
+      limits = bounds .limits;
+      steps = steps-within;
+      waits = waits-pausing;
+      started = due-started;
+      stepped = due-stepped;
+    }

@@ -1,12 +1,13 @@
 -- What bounds an operation of a motor on the station, along any list of calls from a new station: the frames that it sends, the due
--- steps that it needs, the due times that it gives. The motor's bounds are Rattle·motor's specs/Bounds. Definitions only.
-use Prim.Native.Nat.{ℕ, _+_, _≤_}
+-- steps that it needs, when it waits, the due times that it gives. The motor's bounds are Rattle·motor's specs/Bounds. Definitions only.
+use Prim.Native.Nat.{ℕ, _+_, _≤_, _<_}
 use mathlib.Core.Path.{_≡_}
 use mathlib.Core.Bool.{Bool, true, false, cond, not, _&&_}
 use mathlib.Core.List.{List, [], _∷_}
 use mathlib.Core.Option.{Option, none, some}
 use Rattle.motor.specs.declared.engine.command.Command.{Command}
-use Rattle.motor.specs.Bounds.{step as stepped, hasFrame, isDue, once, mostFramesOf, GivenWithin}
+use Rattle.motor.specs.declared.engine.command.Said.the-variants as said
+use Rattle.motor.specs.Bounds.{step as stepped, hasFrame, isDue, once, mostFramesOf, GivenWithin, isPausing}
 use Rattle.motor.specs.Calls.{isIdle}
 use Rattle.motor.specs.Limits.{longestTimeout, mostDueSteps, mostFrames}
 use Rattle.motor.specs.Lone.{Lone}
@@ -67,10 +68,18 @@ DueWithin now (answer.Looked k) o = Unit {0}
 abbrev pub DueOf : ℕ → ℕ → Reply × List Place → Type 0
 DueOf m now r = DueWithin now (r .0 .replied .answer) (held (r .1) m)
 
+-- ---- pauses
+
+-- the operation stands in a pause
+abbrev pub pausesIn : Option Lone → Bool
+pausesIn none = false
+pausesIn (some h) = isPausing (h .state .operation .phase)
+
 -- ---- the theorem
 
 -- After any calls a start of m that isn't refused, and any calls later: m's operation sends at most as many frames as its command may,
--- which are never more than 32, and needs at most 40 due steps. Every due time that m is given is within 60,000.
+-- which are never more than 32, and needs at most 40 due steps. A step of m at or after its due time never answers waiting, save to
+-- begin a pause with a later due time. Every due time that m is given is within 60,000.
 pub record StationBounds : Type 0 where
   pub frames : (before : List Asked) (m : ℕ) (c : Command) (now : ℕ) (later : List Asked)
       → let a = stationCall (after empty before) (start m c now) in
@@ -81,5 +90,11 @@ pub record StationBounds : Type 0 where
       → let a = stationCall (after empty before) (start m c now) in
       unrefused (a .0) ≡ true
       → tally m (dueTo m) (a .1) later ≤ mostDueSteps
+  pub waits : (before : List Asked) (m : ℕ) (h : Lone) (now d : ℕ)
+      → let a = stationCall (after empty before) (step m now) in
+      held (after empty before) m ≡ some h
+      → h .state .operation .due ≤ now
+      → a .0 .replied .answer ≡ answer.Moved (said.Waiting d)
+      → (now < d) × (h .state .operation .due < d) × (pausesIn (held (a .1) m) ≡ true)
   pub started : (before : List Asked) (m : ℕ) (c : Command) (now : ℕ) → DueOf m now (stationCall (after empty before) (start m c now))
   pub stepped : (before : List Asked) (m now : ℕ) → DueOf m now (stationCall (after empty before) (step m now))

@@ -62,7 +62,7 @@ pub fn new() -> Station
     Station { motors }
 }
 
-// One place replaced. Every call that changes a station does it by this.
+// One place replaced.
 fn with_motor(st: Station, i: usize, m: Motor) -> Station
     requires { ⌜ i < mostMotors ⌝ }
     ensures { λ r. ⌜ r ≡ withMotor st i m ⌝ }
@@ -162,13 +162,14 @@ pub fn step(st: Station, id: u16, now: u64) -> After
 
 // ---- frame: 13, then the motor's
 
-fn heard_at(st: Station, i: usize, h: Heard) -> After
+fn heard_at(motors: [Motor; MOTORS], i: usize, h: Heard) -> After
     requires { ⌜ i < mostMotors ⌝ }
-    ensures { λ r. ⌜ r ≡ heardAt st i h ⌝ }
+    ensures { λ r. ⌜ r ≡ heardAt (record { motors = motors }) i h ⌝ }
 {
     let m = h.motor;
     let said = h.said;
-    let station = with_motor(st, i, m);
+    let motors = replaced(motors, i, m);
+    let station = Station { motors };
     let replied = told(said);
     After { station, replied }
 }
@@ -186,7 +187,7 @@ pub fn frame(st: Station, frame: CanFrame, now: u64) -> After
     let i = taken_place(motors, arrival.source);
     if i < MOTORS {
         let m = motor_at(motors, i);
-        return heard_at(st, i, process_feedback_frame(m, frame, now));
+        return heard_at(motors, i, process_feedback_frame(m, frame, now));
     }
     tell(st, Checked::Refused(Refusal::FrameNotAccepted))
 }

@@ -8,8 +8,8 @@ use lib.Dec.{eqb, ltb}
 use lib.Ieee.{Float, binary32, mul, lt, ofBits}
 use mir.Syntax.{w8}
 use mir.Val.{ofZ}
-use Rattle.codec.specs.declared.error.Refusal.the-variants as refusal
 use Rattle.codec.specs.Numbers.{refusalOf}
+use Rattle.codec.specs.Refusals as refusals
 use Rattle.codec.specs.declared.error.LastMode.the-variants as last
 use Rattle.codec.specs.declared.protocol.ParameterValue.{ParameterValue}
 use Rattle.codec.specs.declared.protocol.ParameterValue.the-variants as value
@@ -197,7 +197,7 @@ abbrev pub modeOff : Aim → Node
 modeOff a = sendWithStatusAck request.Disable 240 (acked.Ensure ensure.Off a)
 
 abbrev pub tryIn : ℕ → Aim → Node
-tryIn zero a = node.Fail (refusal.ModeNotReached (a .actual))
+tryIn zero a = node.Fail (refusalOf 18 (refusals.listed (refusals.lastRead (a .actual))))
 tryIn (suc left) a =
     setMode (a .mode) (acked.Ensure ensure.Written (record { mode = a .mode; timeout = a .timeout; left = left; actual = a .actual }))
 

@@ -226,7 +226,7 @@ module _ (k : Call) (f : CanFrame) where
   edits ids = goes f ids Edits (λ r q m. absurd (true≢false (sym q))) (λ i q m. absurd (true≢false (sym q))) k heard
     where
       heard : (time i : ℕ) → k ≡ call.Frame time → Edits (routeAt i (not (isRead f)) (isRead f))
-      heard time i e q m = rw (e, heard-read m f time) (refl, refl)
+      heard time i e q m = rw (e, heard-read m f time q) (refl, refl)
 
 -- ---- the by-value call
 

@@ -26,10 +26,14 @@ heard-with-requires : tie.Need-heard-with-requires
 heard-with-requires c κs = search needs
 
 returns : tie.Need-returns
+unfolding isRead
 returns c = let h = c .before .before .before .before in
-    let a = h .before .before .before .before .before .args in
+    let t = h .before .before .before in
+    let p = t .before in
+    let a = p .before .args in
+    let r = ap (λ (q : IdParts). eqb (q .«comm_type») 17) (sym (p .ext-id-parts .ensures)) ∙ sym (t .is-read .ensures) ∙ h .before .before .if1 .taken in
     heard-both (a .m) (a .frame) (a .now) (c .heard-with .result)
-    (rw (heard-read (a .m) (a .frame) (a .now), ← h .hear-read .ensures .0, ← c .before .edited-by .ensures) (c .heard-with .ensures))
+    (rw (heard-read (a .m) (a .frame) (a .now) r, ← h .hear-read .ensures .0, ← c .before .edited-by .ensures) (c .heard-with .ensures))
 
 hear-state-requires : tie.Need-hear-state-requires
 hear-state-requires c κs = search needs
