@@ -37,18 +37,10 @@ modelText Rs05 = rs (0x30 ∷ 0x35 ∷ [])
 modelText Rs05el = rs (0x30 ∷ 0x35 ∷ 0x65 ∷ 0x6C ∷ [])
 modelText Rs06 = rs (0x30 ∷ 0x36 ∷ [])
 
--- the first of the models that has exactly this name
-unfoldable pub namedAmong : List ℕ → List Model → ModelNamed
-namedAmong name [] = named.Unknown
-namedAmong name (m ∷ models) = cond (sameBytes name (modelText m)) (named.Known m) (namedAmong name models)
-
 abbrev pub allModels : List Model
 allModels = Rs00 ∷ Rs01 ∷ Rs02 ∷ Rs03 ∷ Rs04 ∷ Rs05 ∷ Rs05el ∷ Rs06 ∷ []
 
-abbrev pub modelNamed : List ℕ → ModelNamed
-modelNamed name = namedAmong name allModels
-
--- its number and values: 0 and the model's place, or 3, model unknown
+-- an answer's number and values: 0 and the model's place, or 3, model unknown
 abbrev pub modelPlace : Model → ℕ
 modelPlace Rs00 = 0
 modelPlace Rs01 = 1
@@ -65,6 +57,14 @@ modelNamedRow named.Unknown = (3, [])
 
 abbrev pub modelNamedOf : ℕ → List ℤ → ModelNamed
 modelNamedOf n values = answerOf (named.Known (getD allModels (naturalAt values 0) Rs00)) (λ r. named.Unknown) n values
+
+-- the first of the models that has exactly this name
+unfoldable pub namedAmong : List ℕ → List Model → ModelNamed
+namedAmong name [] = modelNamedOf 3 []
+namedAmong name (m ∷ models) = cond (sameBytes name (modelText m)) (named.Known m) (namedAmong name models)
+
+abbrev pub modelNamed : List ℕ → ModelNamed
+modelNamed name = namedAmong name allModels
 
 -- ---- limits per model: velocity, torque, kp and kd. The position's is 4π, 41490FDB, for each
 

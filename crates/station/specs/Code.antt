@@ -7,13 +7,13 @@ use mathlib.Core.Option.{Option, none, some}
 use lib.ListN.{take}
 use Rattle.codec.specs.declared.bus.CanFrame.{CanFrame}
 use Rattle.codec.specs.declared.error.Checked.the-variants as checked
-use Rattle.codec.specs.declared.error.Refusal.the-variants as refusal
 use Rattle.motor.specs.declared.engine.operation.Effect.the-variants as effect
 use Rattle.motor.specs.declared.readings.Entry.{Entry}
 use Rattle.motor.specs.engine.Run.{noOperation}
 use Rattle.motor.specs.Calls.{noCommand, stateBy}
 use Rattle.motor.specs.Lone.{Lone, loneLook}
 use Rattle.motor.specs.Receive.{countedAt}
+use Rattle.motor.specs.Numbers.{plain}
 use Rattle.station.specs.declared.call.Answer.the-variants as answer
 use Rattle.station.specs.declared.call.Asked.{Asked}
 use Rattle.station.specs.declared.call.Call.{Call}
@@ -64,7 +64,7 @@ unfoldable pub seen : Station → ℕ → Reply
 seen st m = replyOf (lookIn st m)
 
 unfoldable pub shown : Option Lone → Reply
-shown none = gives (reply (answer.Looked (checked.Refused refusal.IdNotRegistered)))
+shown none = gives (reply (answer.Looked (checked.Refused (plain 6))))
 shown (some h) = shows (loneLook h)
 
 -- the readings that a look shows

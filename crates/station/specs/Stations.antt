@@ -8,7 +8,6 @@ use lib.ListN.{length, getD, set, replicate}
 use Rattle.codec.specs.declared.bus.CanFrame.{CanFrame}
 use Rattle.codec.specs.declared.error.Checked.{Checked}
 use Rattle.codec.specs.declared.error.Checked.the-variants as checked
-use Rattle.codec.specs.declared.error.Refusal.the-variants as refusal
 use Rattle.codec.specs.declared.model.Model.{Model}
 use Rattle.codec.specs.declared.model.Model.the-variants as models
 use Rattle.codec.specs.declared.model.ModelNamed.{ModelNamed}
@@ -25,6 +24,7 @@ use Rattle.motor.specs.Lone.{Lone}
 use Rattle.motor.specs.Motors.{newMotor, startOf, stepOf, lookOf, removalOf}
 use Rattle.motor.specs.Readings.{Holds}
 use Rattle.motor.specs.Receive.{acceptsFrame, processFeedbackFrame}
+use Rattle.motor.specs.Numbers.{plain}
 use Rattle.station.specs.declared.station.Station.{Station}
 use Rattle.station.specs.declared.station.After.{After}
 use Rattle.station.specs.declared.station.Looked.{Looked}
@@ -78,7 +78,7 @@ abbrev pub movedAt : Station → ℕ → Answered → After
 movedAt st i a = left (withMotor st i (a .motor)) (moved (a .said) (a .frame) (a .result))
 
 abbrev pub notMoved : Station → After
-notMoved st = left st (reply (answer.Moved (said.Refused refusal.IdNotRegistered)))
+notMoved st = left st (reply (answer.Moved (said.Refused (plain 6))))
 
 abbrev pub heardAt : Station → ℕ → Heard → After
 heardAt st i h = tell (withMotor st i (h .motor)) (h .said)
@@ -92,11 +92,11 @@ unfoldable pub enteredIn : Station → Motor → After
 enteredIn st m =
     cond (ltb (placeOf (st .motors) 0) mostMotors)
     (tell (withMotor st (placeOf (st .motors) 0) m) checked.Passed)
-    (tell st (checked.Refused refusal.StationFull))
+    (tell st (checked.Refused (plain 4)))
 
 unfoldable pub admittedIn : Station → ℕ → ℕ → Model → ℕ → ℕ → After
 admittedIn st id host model wait time =
-    atPlace st id (λ i. tell st (checked.Refused refusal.IdRegistered)) (enteredIn st (newMotor id host model wait time))
+    atPlace st id (λ i. tell st (checked.Refused (plain 5))) (enteredIn st (newMotor id host model wait time))
 
 abbrev pub registerBy : Admission → Station → ℕ → ℕ → ℕ → ℕ → After
 registerBy (admission.Admitted model) st id host wait time = admittedIn st id host model wait time
@@ -113,17 +113,17 @@ stepIn st id now = atPlace st id (λ i. movedAt st i (stepOf (motorAt st i) now)
 
 unfoldable pub frameIn : Station → CanFrame → ℕ → After
 frameIn st f now =
-    let other = tell st (checked.Refused refusal.FrameNotAccepted) in
+    let other = tell st (checked.Refused (plain 13)) in
     cond (acceptsFrame (sourceOf f) f) (atPlace st (sourceOf f) (λ i. heardAt st i (processFeedbackFrame (motorAt st i) f now)) other) other
 
 unfoldable pub lookIn : Station → ℕ → Looked
 lookIn st id =
     atPlace st id (λ i. record { said = checked.Passed; seen = lookOf (motorAt st i) })
-    (record { said = checked.Refused refusal.IdNotRegistered; seen = lookOf freeMotor })
+    (record { said = checked.Refused (plain 6); seen = lookOf freeMotor })
 
 unfoldable pub removeIn : Station → ℕ → ℕ → After
 removeIn st id now =
-    atPlace st id (λ i. removedAt (removalOf (motorAt st i) now) st i) (tell st (checked.Refused refusal.IdNotRegistered))
+    atPlace st id (λ i. removedAt (removalOf (motorAt st i) now) st i) (tell st (checked.Refused (plain 6)))
 
 -- a look's reply; what it shows stands beside it
 abbrev pub lookedIn : Station → ℕ → After

@@ -8,7 +8,6 @@ use Rattle.codec.specs.declared.bus.CanFrame.{CanFrame}
 use Rattle.codec.specs.declared.error.Checked.{Checked}
 use Rattle.codec.specs.declared.error.Checked.the-variants as checked
 use Rattle.codec.specs.declared.error.Refusal.{Refusal}
-use Rattle.codec.specs.declared.error.Refusal.the-variants as refusal
 use Rattle.codec.specs.declared.model.ModelNamed.{ModelNamed}
 use Rattle.codec.specs.declared.model.ModelNamed.the-variants as named
 use Rattle.motor.specs.declared.motor.Answered.{Answered}
@@ -22,6 +21,7 @@ use Rattle.motor.specs.Calls.{registrationOf}
 use Rattle.motor.specs.Edits.{editedBy, hearRead}
 use Rattle.motor.specs.Motors.{newMotor, startOf, stepOf, removalOf}
 use Rattle.motor.specs.Receive.{acceptsFrame, isRead, processFeedbackFrame, hearState}
+use Rattle.motor.specs.Numbers.{plain}
 use Rattle.station.specs.declared.call.Answer.the-variants as answer
 use Rattle.station.specs.declared.call.Asked.{Asked}
 use Rattle.station.specs.declared.call.Call.{Call}
@@ -75,8 +75,8 @@ routeTo ids id r quiet edits = cond (ltb (takenIn ids id) mostMotors) (routeAt (
 -- 5, 4
 unfoldable pub routeFree : List ℕ → ℕ → Route
 routeFree ids id =
-    cond (ltb (takenIn ids id) mostMotors) (nowhere refusal.IdRegistered)
-    (cond (ltb (placeIn ids 0) mostMotors) (routeAt (placeIn ids 0) false false) (nowhere refusal.StationFull))
+    cond (ltb (takenIn ids id) mostMotors) (nowhere (plain 5))
+    (cond (ltb (placeIn ids 0) mostMotors) (routeAt (placeIn ids 0) false false) (nowhere (plain 4)))
 
 abbrev pub routeNew : List ℕ → ℕ → Admission → Route
 routeNew ids id (admission.Admitted model) = routeFree ids id
@@ -84,15 +84,15 @@ routeNew ids id (admission.Refused r) = nowhere r
 
 unfoldable pub routeFrame : List ℕ → CanFrame → Route
 routeFrame ids f =
-    cond (acceptsFrame (sourceOf f) f) (routeTo ids (sourceOf f) refusal.FrameNotAccepted (not (isRead f)) (isRead f)) (nowhere refusal.FrameNotAccepted)
+    cond (acceptsFrame (sourceOf f) f) (routeTo ids (sourceOf f) (plain 13) (not (isRead f)) (isRead f)) (nowhere (plain 13))
 
 abbrev pub routeBy : List ℕ → Call → CanFrame → Route
 routeBy ids (call.Register id host model wait time) f = routeNew ids id (registrationOf id host model wait time)
-routeBy ids (call.Start id command time) f = routeTo ids id refusal.IdNotRegistered false false
-routeBy ids (call.Step id time) f = routeTo ids id refusal.IdNotRegistered false false
+routeBy ids (call.Start id command time) f = routeTo ids id (plain 6) false false
+routeBy ids (call.Step id time) f = routeTo ids id (plain 6) false false
 routeBy ids (call.Frame time) f = routeFrame ids f
-routeBy ids (call.Look id) f = routeTo ids id refusal.IdNotRegistered false false
-routeBy ids (call.Remove id time) f = routeTo ids id refusal.IdNotRegistered false false
+routeBy ids (call.Look id) f = routeTo ids id (plain 6) false false
+routeBy ids (call.Remove id time) f = routeTo ids id (plain 6) false false
 
 unfoldable pub routedOf : List ℕ → Asked → Route
 routedOf ids a = routeBy ids (a .call) (a .frame)
@@ -115,7 +115,7 @@ removedAt m (checked.Refused r) = leave m (told (checked.Refused r))
 -- a registration that is admitted has its model
 abbrev pub enteredAt : Motor → ℕ → ℕ → ModelNamed → ℕ → ℕ → Visited
 enteredAt m id host (named.Known model) wait time = leave (newMotor id host model wait time) (told checked.Passed)
-enteredAt m id host named.Unknown wait time = leave m (told (checked.Refused refusal.UnknownModel))
+enteredAt m id host named.Unknown wait time = leave m (told (checked.Refused (plain 3)))
 
 abbrev pub doneBy : Motor → Call → CanFrame → Visited
 doneBy m (call.Register id host model wait time) f = enteredAt m id host model wait time

@@ -4,9 +4,9 @@ use mathlib.Core.Bool.{true, false, cond}
 use mathlib.Core.List.{List}
 use lib.Dec.{ltb}
 use Rattle.codec.specs.declared.error.Checked.the-variants as checked
-use Rattle.codec.specs.declared.error.Refusal.the-variants as refusal
 use Rattle.motor.specs.declared.motor.Motor.{Motor}
 use Rattle.motor.specs.Motors.{lookOf}
+use Rattle.motor.specs.Numbers.{plain}
 use Rattle.station.specs.declared.station.Looked.{Looked}
 use Rattle.station.specs.Limits.{mostMotors}
 use Rattle.station.specs.Stations.{freeMotor}
@@ -19,4 +19,4 @@ spotIn ids id = cond (ltb (takenIn ids id) mostMotors) (record { «at» = takenI
 -- 6
 unfoldable pub lookedAt : Motor → Spot → Looked
 lookedAt m s =
-    cond (s .taken) (record { said = checked.Passed; seen = lookOf m }) (record { said = checked.Refused refusal.IdNotRegistered; seen = lookOf freeMotor })
+    cond (s .taken) (record { said = checked.Passed; seen = lookOf m }) (record { said = checked.Refused (plain 6); seen = lookOf freeMotor })
