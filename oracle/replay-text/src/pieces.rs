@@ -1,7 +1,7 @@
 //! Input in any pieces, long lines, a conversation, and memory.
 use crate::program::{answer, answers, between, from, start};
 use common::random::{Random, SEED};
-use std::io::{BufRead, BufReader, Read, Write};
+use std::io::{BufRead, BufReader, Write};
 
 /// A session that is larger than the program's buffers, with looks, errors and comments.
 fn session() -> String {
@@ -181,24 +181,23 @@ pub fn unreadable() -> Result<String, String> {
     Ok("a folder as input".to_string())
 }
 
-/// A write that fails is said, once, and nothing more is read: what is written to /dev/full is lost.
+/// A write that fails is said, and nothing more is run: what is written to /dev/full is lost. A program that
+/// goes on would say it of the second line again.
 pub fn unwritable() -> Result<String, String> {
     let full = std::fs::File::create("/dev/full").map_err(|error| error.to_string())?;
     let mut child = between(std::process::Stdio::piped(), full.into())?;
     let mut stdin = child.stdin.take().ok_or("no pipe")?;
-    // The input stays open: a program that goes on would wait for more of it.
     stdin
         .write_all(b"look 9\n")
         .map_err(|error| error.to_string())?;
-    let mut said = String::new();
-    child
-        .stderr
-        .take()
-        .ok_or("no pipe")?
-        .read_to_string(&mut said)
-        .map_err(|error| error.to_string())?;
-    child.wait().map_err(|error| error.to_string())?;
+    std::thread::sleep(std::time::Duration::from_millis(300));
+    // Nobody may be there to read this one.
+    let _ = stdin.write_all(b"look 9\n");
     drop(stdin);
+    let output = child
+        .wait_with_output()
+        .map_err(|error| error.to_string())?;
+    let said = String::from_utf8_lossy(&output.stderr);
     if said != "replay: an answer could not be written\n" {
         return Err(format!("a full device as output: {said:?}"));
     }
