@@ -6,7 +6,7 @@ use mathlib.Core.List.{List, [], _∷_, _++_, append-nil, append-assoc}
 use native.Mathlib.Omega.{arith}
 use lib.Dec.{eqb, leb}
 use lib.ListN.{length, take, drop, length-append, length-drop, length-take}
-use lib.Seq.{drop-drop, take-all, take-take}
+use lib.Seq.{drop-drop, length-take-le, take-all, take-take}
 use borrow.Author.Tests.{lt-leb, leb-false}
 use Rattle.station.specs.declared.station.Station.{Station}
 use Rattle.station.specs.Stations.{newStation}
@@ -46,7 +46,11 @@ told-before st told bytes = ap (λ (t : List ℕ). hearAll (heard st [] t) bytes
 
 -- ---- the lines that were taken
 
-module _ (st st′ : Station) (pending out : List ℕ) (c : Cursor) (got sent : ℕ) (r : Reached st pending got sent) (l : LinesTaken st pending st′ c out) where
+-- the turns that are left, where one was used up and where none was
+abbrev pub lessOne : Bool → ℕ → ℕ
+lessOne used left = cond used (left - 1) left
+
+module _ (st st′ : Station) (pending out : List ℕ) (c : Cursor) (got sent left : ℕ) (r : Reached st pending got sent left) (l : LinesTaken st pending st′ c out) where
   abbrev text : List ℕ
   text = take (c .«at») out
 
@@ -72,13 +76,19 @@ module _ (st st′ : Station) (pending out : List ℕ) (c : Cursor) (got sent : 
             ∙ append-assoc (r .told) text (more ++ tornText (length line));
       }
 
-  pub lines-on : (sent′ : ℕ) → sent′ ≡ (sent + length text) % 2 ^ 64 → Reached st′ rest got sent′
+  -- a full buffer holds bytes
+  turns-on : (full : Bool) → c .full ≡ full → 2 ^ 64 - 1 ≤ lessOne full left + (length (joined (r .reads)) + length (r .told ++ text))
+  turns-on true e = rw (length-append (r .told) text, length-take-le (c .«at») out (l .fits)) (omega (arith, r .turns, l .no-room e))
+  turns-on false e = rw (length-append (r .told) text) (omega (arith, r .turns))
+
+  pub lines-on : (sent′ : ℕ) → sent′ ≡ (sent + length text) % 2 ^ 64 → Reached st′ rest got sent′ (lessOne (c .full) left)
   lines-on sent′ e = record {
     reads = r .reads;
     told = r .told ++ text;
     got-is = r .got-is;
     sent-is = e ∙ rw (length-append (r .told) text) (omega (arith, r .sent-is));
     heard-is = goes-on;
+    turns = turns-on (c .full) refl;
   }
 
 -- ---- what is kept has no LF, and is short of the buffer
@@ -121,10 +131,10 @@ joined-then : (reads : List (List ℕ)) (bytes : List ℕ) → joined (reads ++ 
 joined-then [] bytes = append-nil bytes
 joined-then (r ∷ reads) bytes = ap (λ (l : List ℕ). r ++ l) (joined-then reads bytes) ∙ sym (append-assoc r (joined reads) bytes)
 
-pub reached-next : (st : Station) (rest pending : List ℕ) (got got′ sent : ℕ) (full more : Bool) → Reached st rest got sent → (full ≡ false → Plain rest) → Follows full rest got pending got′ more → Reached st pending got′ sent
-reached-next st rest pending got got′ sent true more r p f =
-    record { reads = r .reads; told = r .told; got-is = f .1 ∙ r .got-is; sent-is = r .sent-is; heard-is = r .heard-is ∙ ap (λ (l : List ℕ). keptAs (hearAll (heard st [] (r .told)) l)) (sym (f .0)) }
-reached-next st rest pending got got′ sent false more r p f =
+pub reached-next : (st : Station) (rest pending : List ℕ) (got got′ sent left : ℕ) (full more : Bool) → Reached st rest got sent (lessOne full left) → (full ≡ false → Plain rest) → Follows full rest got pending got′ more → Reached st pending got′ sent (lessOne more left)
+reached-next st rest pending got got′ sent left true more r p f =
+    record { reads = r .reads; told = r .told; got-is = f .1 ∙ r .got-is; sent-is = r .sent-is; heard-is = r .heard-is ∙ ap (λ (l : List ℕ). keptAs (hearAll (heard st [] (r .told)) l)) (sym (f .0)); turns = rw (f .2) (r .turns) }
+reached-next st rest pending got got′ sent left false more r p f =
     let bytes : List ℕ = f .bytes in
     let kept : List ℕ = keptOf rest in
     record {
@@ -136,11 +146,21 @@ reached-next st rest pending got got′ sent false more r p f =
           reads-then (heard newStation [] []) (r .reads) bytes
           ∙ ap (λ (s : HeardSoFar). hearPiece s bytes) (r .heard-is ∙ ap keptAs (hears-plain st (r .told) rest (p refl)))
           ∙ ap keptAs (sym (hear-plain st [] (r .told) kept bytes (plain-kept rest (p refl))) ∙ ap (λ (l : List ℕ). hearAll (heard st [] (r .told)) l) (sym (f .pending-is)));
+      turns = read-on more refl;
     }
+  where
+    -- where the input goes on, a byte came
+    read-on : (x : Bool) → more ≡ x → 2 ^ 64 - 1 ≤ lessOne x left + (length (joined (r .reads ++ (f .bytes ∷ []))) + length (r .told))
+    read-on true e = rw (joined-then (r .reads) (f .bytes), length-append (joined (r .reads)) (f .bytes)) (omega (arith, r .turns, f .goes-on e))
+    read-on false e = rw (joined-then (r .reads) (f .bytes), length-append (joined (r .reads)) (f .bytes)) (omega (arith, r .turns))
 
-pub reached-first : Reached newStation [] 0 0
+-- a turn more
+pub reached-again : (st : Station) (rest pending : List ℕ) (got got′ sent left : ℕ) (full more : Bool) → Reached st rest got sent (lessOne full left) → (full ≡ false → Plain rest) → Follows full rest got pending got′ more → more ≡ true → Reached st pending got′ sent (left - 1)
+reached-again st rest pending got got′ sent left full more r p f e = subst (λ (m : Bool). Reached st pending got′ sent (lessOne m left)) e (reached-next st rest pending got got′ sent left full more r p f)
+
+pub reached-first : Reached newStation [] 0 0 (2 ^ 64 - 1)
 unfolding keptOf
-reached-first = record { reads = []; told = []; got-is = refl; sent-is = refl; heard-is = refl }
+reached-first = record { reads = []; told = []; got-is = refl; sent-is = refl; heard-is = refl; turns = omega arith }
 
 -- ---- the end of the input
 
@@ -151,7 +171,7 @@ left-over rest pending got got′ false p f =
     let e : keptOf rest ≡ pending = sym (append-nil (keptOf rest)) ∙ ap (λ (l : List ℕ). keptOf rest ++ l) (sym (f .ends refl)) ∙ sym (f .pending-is) in
     (subst Plain e (plain-kept rest (p refl)), subst (λ (l : List ℕ). length l < bufferSize) e (kept-short rest))
 
-module _ (st : Station) (pending : List ℕ) (got sent : ℕ) (r : Reached st pending got sent) (plain : Plain pending) (short : length pending < bufferSize) where
+module _ (st : Station) (pending : List ℕ) (got sent left : ℕ) (r : Reached st pending got sent left) (plain : Plain pending) (short : length pending < bufferSize) where
   abbrev torn : List ℕ
   torn = tornText (length pending)
 
@@ -167,7 +187,7 @@ module _ (st : Station) (pending : List ℕ) (got sent : ℕ) (r : Reached st pe
 
 -- ---- a turn of the loop: the bytes from a place up to n are answered
 
-module _ (st st′ : Station) (xs out : List ℕ) (c : Cursor) (from n got sent : ℕ) (b : from ≤ n) (w : n ≤ length xs) (r : Reached st (drop from (take n xs)) got sent)
+module _ (st st′ : Station) (xs out : List ℕ) (c : Cursor) (from n got sent left : ℕ) (b : from ≤ n) (w : n ≤ length xs) (r : Reached st (drop from (take n xs)) got sent left)
     (l : LinesTaken st (take (n - from) (take (length xs - from) (drop from xs))) st′ c out) where
   abbrev pending : List ℕ
   pending = drop from (take n xs)
@@ -185,25 +205,25 @@ module _ (st st′ : Station) (xs out : List ℕ) (c : Cursor) (from n got sent 
   turn-begins = omega (arith, taken .begins, pending-length)
 
   pub turn-due : Due sent (take (c .«at») out)
-  turn-due = lines-due st st′ pending out c got sent r taken
+  turn-due = lines-due st st′ pending out c got sent left r taken
 
-  pub turn-on : (sent′ : ℕ) → sent′ ≡ (sent + length (take (c .«at») out)) % 2 ^ 64 → Reached st′ (drop (from + c .from) (take n xs)) got sent′
-  turn-on sent′ e = subst (λ (bytes : List ℕ). Reached st′ bytes got sent′) (drop-drop (c .from) from (take n xs)) (lines-on st st′ pending out c got sent r taken sent′ e)
+  pub turn-on : (sent′ : ℕ) → sent′ ≡ (sent + length (take (c .«at») out)) % 2 ^ 64 → Reached st′ (drop (from + c .from) (take n xs)) got sent′ (lessOne (c .full) left)
+  turn-on sent′ e = subst (λ (bytes : List ℕ). Reached st′ bytes got sent′ (lessOne (c .full) left)) (drop-drop (c .from) from (take n xs)) (lines-on st st′ pending out c got sent left r taken sent′ e)
 
   pub turn-last : c .full ≡ false → Plain (drop (from + c .from) (take n xs))
   turn-last f = subst Plain (drop-drop (c .from) from (take n xs)) (taken .last f)
 
 -- the last turn
-module _ (st : Station) (rest pending : List ℕ) (got got′ sent k : ℕ) (full more : Bool) (r : Reached st rest got sent) (p : full ≡ false → Plain rest) (f : Follows full rest got pending got′ more) (e : more ≡ false) (is : length pending ≡ k) where
-  here : Reached st pending got′ sent
-  here = reached-next st rest pending got got′ sent full more r p f
+module _ (st : Station) (rest pending : List ℕ) (got got′ sent left k : ℕ) (full more : Bool) (r : Reached st rest got sent (lessOne full left)) (p : full ≡ false → Plain rest) (f : Follows full rest got pending got′ more) (e : more ≡ false) (is : length pending ≡ k) where
+  here : Reached st pending got′ sent (lessOne more left)
+  here = reached-next st rest pending got got′ sent left full more r p f
 
   kept : Plain pending × (length pending < bufferSize)
   kept = left-over rest pending got got′ full p (subst (λ (m : Bool). Follows full rest got pending got′ m) e f)
 
   pub end-due : Due sent (tornText k)
-  end-due = subst (λ (m : ℕ). Due sent (tornText m)) is (torn-due st pending got′ sent here (kept .0) (kept .1))
+  end-due = subst (λ (m : ℕ). Due sent (tornText m)) is (torn-due st pending got′ sent (lessOne more left) here (kept .0) (kept .1))
 
   pub end-answered : (got″ sent′ : ℕ) → got″ ≡ got′ → sent′ ≡ (sent + length (tornText k)) % 2 ^ 64 → AllAnswered got″ sent′
   end-answered got″ sent′ g s =
-      subst (λ (m : ℕ). AllAnswered m sent′) (sym g) (all-answered st pending got′ sent here (kept .0) (kept .1) sent′ (s ∙ ap (λ (m : ℕ). (sent + length (tornText m)) % 2 ^ 64) (sym is)))
+      subst (λ (m : ℕ). AllAnswered m sent′) (sym g) (all-answered st pending got′ sent (lessOne more left) here (kept .0) (kept .1) sent′ (s ∙ ap (λ (m : ℕ). (sent + length (tornText m)) % 2 ^ 64) (sym is)))

@@ -1,5 +1,5 @@
 -- The whole program: what is answered to the bytes of an input, in one piece and as it is read. Definitions only.
-use Prim.Native.Nat.{ℕ, _+_, _%_, _^_, _<_}
+use Prim.Native.Nat.{ℕ, _+_, _-_, _%_, _^_, _≤_, _<_}
 use mathlib.Core.Path.{_≡_}
 use mathlib.Core.Bool.{Bool, true, false, cond}
 use mathlib.Core.List.{List, [], _∷_, _++_}
@@ -85,14 +85,16 @@ programOf reads = answered (hearPieces (heard newStation [] []) reads)
 abbrev pub Counted : ℕ → List ℕ → Type 0
 Counted k bytes = k ≡ length bytes % 2 ^ 64
 
--- after some reads, of so many bytes: the station, the bytes still to be heard, and how many were written. What was written, and what
--- these bytes will be answered by, is what the reads are answered by
-pub record Reached (st : Station) (pending : List ℕ) (got sent : ℕ) : Type 0 where
+-- after some reads, of so many bytes: the station, the bytes still to be heard, how many were written, and how many turns are left of
+-- 2^64 - 1. What was written, and what these bytes will be answered by, is what the reads are answered by; no turn is used up without a byte
+-- that was read or written
+pub record Reached (st : Station) (pending : List ℕ) (got sent left : ℕ) : Type 0 where
   pub reads : List (List ℕ)
   pub told : List ℕ
   pub got-is : Counted got (joined reads)
   pub sent-is : Counted sent told
   pub heard-is : hearPieces (heard newStation [] []) reads ≡ keptAs (hearAll (heard st [] told) pending)
+  pub turns : 2 ^ 64 - 1 ≤ left + (length (joined reads) + length told)
 
 -- these bytes are the next of the output, after so many: they stand there in the output of some reads
 pub record Due (sent : ℕ) (bytes : List ℕ) : Type 0 where
@@ -120,3 +122,9 @@ pub record AllAnswered (got sent : ℕ) : Type 0 where
   pub reads : List (List ℕ)
   pub got-is : Counted got (joined reads)
   pub sent-is : Counted sent (program (joined reads))
+
+-- no turn is left: so many bytes were read and written, 2^64 - 1 at least, and what was written was due
+pub record OutOfTurns (got sent : ℕ) : Type 0 where
+  pub station : Station
+  pub pending : List ℕ
+  pub reached : Reached station pending got sent 0

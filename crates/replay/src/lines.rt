@@ -5,7 +5,7 @@ use crate::turns::take_lines;
 use session::event::Reason;
 use station::station::new;
 ghost use mathlib.Core.Path.{_≡_};
-ghost use mathlib.Core.Bool.{true, false};
+ghost use mathlib.Core.Bool.{true, false, not};
 ghost use mathlib.Core.List.{_++_};
 ghost use Prim.Native.Nat.{_+_, _-_, _%_, _^_, _≤_, _<_};
 ghost use lib.ListN.{length, take, drop, getD, set};
@@ -29,18 +29,20 @@ pub struct Wrote {
     pub good: bool,
 }
 
-// How many bytes were read and written, round 2^64, and whether the input came to its end and every read and write went well.
+// How many bytes were read and written, round 2^64. good is whether the input came to its end and every read and write went
+// well, failed whether one of them didn't; neither, where the turns are used up.
 pub struct Ran {
     pub got: usize,
     pub sent: usize,
     pub good: bool,
+    pub failed: bool,
 }
 
 // Answers the lines of the input until it ends, or a read or a write fails. Nothing says that an input ends, so the turns are
 // counted down from a number that no run uses up.
 pub(crate) fn run(inp: &mut [u8], out: &mut [u8]) -> Ran
     requires { ⌜ (length (now inp) ≡ bufferSize) × (length (now out) ≡ bufferSize) ⌝ }
-    ensures { λ r. ⌜ (r .good ≡ true → spec.AllAnswered (r .got) (r .sent)) ⌝ }
+    ensures { λ r. ⌜ (r .good ≡ true → spec.AllAnswered (r .got) (r .sent)) × (r .good ≡ false → r .failed ≡ false → spec.OutOfTurns (r .got) (r .sent)) ⌝ }
 {
     let st = new();
     let mut motors = st.motors;
@@ -62,6 +64,7 @@ pub(crate) fn run(inp: &mut [u8], out: &mut [u8]) -> Ran
                 got,
                 sent,
                 good: false,
+                failed: true,
             };
         }
         sent = told.total;
@@ -77,6 +80,7 @@ pub(crate) fn run(inp: &mut [u8], out: &mut [u8]) -> Ran
         got,
         sent,
         good: false,
+        failed: false,
     }
 }
 
@@ -138,7 +142,7 @@ fn read_after(inp: &mut [u8], kept: usize, got: usize) -> Pending
 // The end of the input: a line that it tears is answered, and that is written. Of a read that failed it is said that it did.
 fn finish(end: Pending, out: &mut [u8], sent: usize) -> Ran
     requires { ⌜ (length (now out) ≡ bufferSize) × (end .from ≤ end .n) × spec.Due sent (spec.tornText (end .n - end .from)) ⌝ }
-    ensures { λ r. ⌜ (r .got ≡ end .got) × (r .good ≡ true → r .sent ≡ (sent + length (spec.tornText (end .n - end .from))) % 2 ^ 64) ⌝ }
+    ensures { λ r. ⌜ (r .got ≡ end .got) × (r .good ≡ true → r .sent ≡ (sent + length (spec.tornText (end .n - end .from))) % 2 ^ 64) × (r .failed ≡ not (r .good)) ⌝ }
 {
     let got = end.got;
     if !end.good {
@@ -147,6 +151,7 @@ fn finish(end: Pending, out: &mut [u8], sent: usize) -> Ran
             got,
             sent,
             good: false,
+            failed: true,
         };
     }
     let left = end.n - end.from;
@@ -156,6 +161,7 @@ fn finish(end: Pending, out: &mut [u8], sent: usize) -> Ran
         got,
         sent: told.total,
         good: told.good,
+        failed: !told.good,
     }
 }
 

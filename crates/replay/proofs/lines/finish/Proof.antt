@@ -19,7 +19,7 @@ complain-requires : tie.Need-complain-requires
 complain-requires c κs = search needs
 
 returns : tie.Need-returns
-returns c = (refl, λ g. absurd (true≢false (sym g)))
+returns c = (refl, λ g. absurd (true≢false (sym g)), refl)
 
 sub-left : tie.Need-sub-left
 sub-left c = search needs
@@ -46,9 +46,9 @@ same-length c = search needs
 
 returns-2 : tie.Need-returns-2
 returns-2 c =
-    let t = c .before .before .before .before .put-torn in
-    let a = c .before .before .before .before .before .before .before .before .before .before in
-    (refl, λ g. c .written .ensures ∙ ap (λ (l : List ℕ). (a .args .sent + length l) % 2 ^ 64) (torn-whole (a .args .end .n - a .args .end .from) (t .result) (a .args .out .now) (t .last .1 .0) (a .pre .0) (t .ensures)))
+    let t = c .before .before .before .before .before .put-torn in
+    let a = c .before .before .before .before .before .before .before .before .before .before .before in
+    (refl, λ g. c .before .written .ensures ∙ ap (λ (l : List ℕ). (a .args .sent + length l) % 2 ^ 64) (torn-whole (a .args .end .n - a .args .end .from) (t .result) (a .args .out .now) (t .last .1 .0) (a .pre .0) (t .ensures)), refl)
 
 pub finish-spec : {M : Type 1} → statement M
 finish-spec =

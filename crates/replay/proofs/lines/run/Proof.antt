@@ -1,9 +1,9 @@
 -- Right because the turns are counted down, so the loop ends; each begins with a station and bytes that the reads before it lead to, and writes what is due.
 use Prim.Native.Nat.{ℕ, _+_, _-_, _≤_}
-use mathlib.Core.Path.{_≡_, sym, _∙_}
-use mathlib.Core.Bool.{true≢false}
+use mathlib.Core.Path.{_≡_, sym, ap, _∙_}
+use mathlib.Core.Bool.{not, true≢false}
 use mathlib.Core.List.{List}
-use borrow.Author.Tests.{not-true}
+use borrow.Author.Tests.{not-true, not-false}
 use native.Mathlib.Omega.{arith}
 use lib.ListN.{length, take, drop, length-drop, length-take}
 use lib.Seq.{length-take-le}
@@ -11,12 +11,12 @@ use borrow.Author.Needs.{needs}
 use Rattle.station.specs.lent.Lent.{stationOf}
 use Rattle.replay.specs.Limits.{bufferSize}
 use Rattle.replay.specs.Program.{Reached}
-use Rattle.replay.proofs.Reaching.{reached-first, reached-next, turn-begins, turn-due, turn-on, turn-last, end-due, end-answered}
+use Rattle.replay.proofs.Reaching.{lessOne, reached-first, reached-again, turn-begins, turn-due, turn-on, turn-last, end-due, end-answered}
 use Rattle.replay.proofs.lines.run.Statement.{statement}
 use Rattle.replay.proofs.lines.run.Tie as tie
 
 abbrev Inv-loop : tie.InvT-loop
-Inv-loop inp₀ out₀ motors₀ from₀ n₀ got₀ sent₀ turns₀ inp out motors from n got sent turns = (length inp ≡ bufferSize) × (length out ≡ bufferSize) × (from ≤ n) × (n ≤ bufferSize) × Reached (stationOf motors) (drop from (take n inp)) got sent
+Inv-loop inp₀ out₀ motors₀ from₀ n₀ got₀ sent₀ turns₀ inp out motors from n got sent turns = (length inp ≡ bufferSize) × (length out ≡ bufferSize) × (from ≤ n) × (n ≤ bufferSize) × Reached (stationOf motors) (drop from (take n inp)) got sent turns
 
 abbrev μ-loop : tie.MeasureT-loop
 μ-loop inp₀ out₀ motors₀ from₀ n₀ got₀ sent₀ turns₀ inp out motors from n got sent turns = turns
@@ -61,7 +61,7 @@ written-requires : tie.Need-written-requires Inv-loop μ-loop
 written-requires c κs =
     let t = c .before .before .before .before .before .take-lines in
     let g = c .before .before .before .before .before .before .before .before .before .before .loop in
-    turn-due (stationOf (g .motors)) (stationOf (t .result .motors)) (g .inp) (t .last .1 .1 .1 .0) (t .result .cursor) (g .from) (g .n) (g .got) (g .sent) (g .inv .2) (omega (arith, g .inv .0, g .inv .3)) (g .inv .4) (t .ensures)
+    turn-due (stationOf (g .motors)) (stationOf (t .result .motors)) (g .inp) (t .last .1 .1 .1 .0) (t .result .cursor) (g .from) (g .n) (g .got) (g .sent) (g .turns) (g .inv .2) (omega (arith, g .inv .0, g .inv .3)) (g .inv .4) (t .ensures)
 
 same-length : tie.Need-same-length Inv-loop μ-loop
 same-length c = search needs
@@ -70,19 +70,19 @@ same-length-2 : tie.Need-same-length-2 Inv-loop μ-loop
 same-length-2 c = search needs
 
 returns : tie.Need-returns Inv-loop μ-loop
-returns c g = absurd (true≢false (sym g))
+returns c = (λ g. absurd (true≢false (sym g)), λ _ f. absurd (true≢false f))
 
 add-more-bytes : tie.Need-add-more-bytes Inv-loop μ-loop
 add-more-bytes c =
     let t = c .before .before .before .before .before .before .before .before .before .before .take-lines in
     let g = c .before .before .before .before .before .before .before .before .before .before .before .before .before .before .before .loop in
-    omega (arith, g .inv .3, turn-begins (stationOf (g .motors)) (stationOf (t .result .motors)) (g .inp) (t .last .1 .1 .1 .0) (t .result .cursor) (g .from) (g .n) (g .got) (g .sent) (g .inv .2) (omega (arith, g .inv .0, g .inv .3)) (g .inv .4) (t .ensures))
+    omega (arith, g .inv .3, turn-begins (stationOf (g .motors)) (stationOf (t .result .motors)) (g .inp) (t .last .1 .1 .1 .0) (t .result .cursor) (g .from) (g .n) (g .got) (g .sent) (g .turns) (g .inv .2) (omega (arith, g .inv .0, g .inv .3)) (g .inv .4) (t .ensures))
 
 more-bytes-requires : tie.Need-more-bytes-requires Inv-loop μ-loop
 more-bytes-requires c κs =
     let t = c .before .before .before .before .before .before .before .before .before .before .take-lines in
     let g = c .before .before .before .before .before .before .before .before .before .before .before .before .before .before .before .loop in
-    (turn-begins (stationOf (g .motors)) (stationOf (t .result .motors)) (g .inp) (t .last .1 .1 .1 .0) (t .result .cursor) (g .from) (g .n) (g .got) (g .sent) (g .inv .2) (omega (arith, g .inv .0, g .inv .3)) (g .inv .4) (t .ensures), omega (arith, g .inv .0, g .inv .3), g .inv .0)
+    (turn-begins (stationOf (g .motors)) (stationOf (t .result .motors)) (g .inp) (t .last .1 .1 .1 .0) (t .result .cursor) (g .from) (g .n) (g .got) (g .sent) (g .turns) (g .inv .2) (omega (arith, g .inv .0, g .inv .3)) (g .inv .4) (t .ensures), omega (arith, g .inv .0, g .inv .3), g .inv .0)
 
 finish-requires : tie.Need-finish-requires Inv-loop μ-loop
 finish-requires c κs =
@@ -92,9 +92,9 @@ finish-requires c κs =
     let m = c .before .before .before .before .before .more-bytes in
     let rest : List ℕ = drop (g .from + t .result .cursor .from) (take (g .n) (g .inp)) in
     let pending : List ℕ = drop (m .result .from) (take (m .result .n) (m .last .0)) in
-    let r : Reached (stationOf (t .result .motors)) rest (g .got) (w .result .total) = turn-on (stationOf (g .motors)) (stationOf (t .result .motors)) (g .inp) (t .last .1 .1 .1 .0) (t .result .cursor) (g .from) (g .n) (g .got) (g .sent) (g .inv .2) (omega (arith, g .inv .0, g .inv .3)) (g .inv .4) (t .ensures) (w .result .total) (w .ensures) in
+    let r : Reached (stationOf (t .result .motors)) rest (g .got) (w .result .total) (lessOne (t .result .cursor .full) (g .turns)) = turn-on (stationOf (g .motors)) (stationOf (t .result .motors)) (g .inp) (t .last .1 .1 .1 .0) (t .result .cursor) (g .from) (g .n) (g .got) (g .sent) (g .turns) (g .inv .2) (omega (arith, g .inv .0, g .inv .3)) (g .inv .4) (t .ensures) (w .result .total) (w .ensures) in
     let is : length pending ≡ m .result .n - m .result .from = simp (length-drop, length-take) (omega (arith, m .ensures .1, c .before .before .before .before .inp2 .given, g .inv .0)) in
-    (c .before .before .before .before .before .before .before .before .before .before .before .before .before .before .before .out .given ∙ g .inv .1, m .ensures .0, end-due (stationOf (t .result .motors)) rest pending (g .got) (m .result .got) (w .result .total) (m .result .n - m .result .from) (t .result .cursor .full) (m .result .more) r (turn-last (stationOf (g .motors)) (stationOf (t .result .motors)) (g .inp) (t .last .1 .1 .1 .0) (t .result .cursor) (g .from) (g .n) (g .got) (g .sent) (g .inv .2) (omega (arith, g .inv .0, g .inv .3)) (g .inv .4) (t .ensures)) (m .ensures .2) (not-true (m .result .more) (c .before .if2 .taken)) is)
+    (c .before .before .before .before .before .before .before .before .before .before .before .before .before .before .before .out .given ∙ g .inv .1, m .ensures .0, end-due (stationOf (t .result .motors)) rest pending (g .got) (m .result .got) (w .result .total) (g .turns) (m .result .n - m .result .from) (t .result .cursor .full) (m .result .more) r (turn-last (stationOf (g .motors)) (stationOf (t .result .motors)) (g .inp) (t .last .1 .1 .1 .0) (t .result .cursor) (g .from) (g .n) (g .got) (g .sent) (g .turns) (g .inv .2) (omega (arith, g .inv .0, g .inv .3)) (g .inv .4) (t .ensures)) (m .ensures .2) (not-true (m .result .more) (c .before .if2 .taken)) is)
 
 same-length-3 : tie.Need-same-length-3 Inv-loop μ-loop
 same-length-3 c = c .before .before .before .before .before .before .before .inp2 .given ∙ c .before .before .before .before .before .before .before .before .before .before .before .before .before .before .before .before .before .before .before .before .before .before .before .before .loop .inv .0 ∙ sym (c .before .before .before .before .before .before .before .before .before .before .before .before .before .before .before .before .before .before .before .before .before .before .before .before .before .before .before .before .before .pre .0)
@@ -103,16 +103,17 @@ same-length-4 : tie.Need-same-length-4 Inv-loop μ-loop
 same-length-4 c = c .before .out2 .given ∙ c .before .before .before .before .before .before .before .before .before .before .before .before .before .before .before .before .before .before .out .given ∙ c .before .before .before .before .before .before .before .before .before .before .before .before .before .before .before .before .before .before .before .before .before .before .before .before .loop .inv .1 ∙ sym (c .before .before .before .before .before .before .before .before .before .before .before .before .before .before .before .before .before .before .before .before .before .before .before .before .before .before .before .before .before .pre .1)
 
 returns-2 : tie.Need-returns-2 Inv-loop μ-loop
-returns-2 c h =
+returns-2 c =
     let t = c .before .before .before .before .before .before .before .before .before .before .before .before .before .before .before .before .before .before .before .take-lines in
     let g = c .before .before .before .before .before .before .before .before .before .before .before .before .before .before .before .before .before .before .before .before .before .before .before .before .loop in
     let w = c .before .before .before .before .before .before .before .before .before .before .before .before .before .written in
     let m = c .before .before .before .before .before .before .before .before .more-bytes in
     let rest : List ℕ = drop (g .from + t .result .cursor .from) (take (g .n) (g .inp)) in
     let pending : List ℕ = drop (m .result .from) (take (m .result .n) (m .last .0)) in
-    let r : Reached (stationOf (t .result .motors)) rest (g .got) (w .result .total) = turn-on (stationOf (g .motors)) (stationOf (t .result .motors)) (g .inp) (t .last .1 .1 .1 .0) (t .result .cursor) (g .from) (g .n) (g .got) (g .sent) (g .inv .2) (omega (arith, g .inv .0, g .inv .3)) (g .inv .4) (t .ensures) (w .result .total) (w .ensures) in
+    let r : Reached (stationOf (t .result .motors)) rest (g .got) (w .result .total) (lessOne (t .result .cursor .full) (g .turns)) = turn-on (stationOf (g .motors)) (stationOf (t .result .motors)) (g .inp) (t .last .1 .1 .1 .0) (t .result .cursor) (g .from) (g .n) (g .got) (g .sent) (g .turns) (g .inv .2) (omega (arith, g .inv .0, g .inv .3)) (g .inv .4) (t .ensures) (w .result .total) (w .ensures) in
     let is : length pending ≡ m .result .n - m .result .from = simp (length-drop, length-take) (omega (arith, m .ensures .1, c .before .before .before .before .before .before .before .inp2 .given, g .inv .0)) in
-    end-answered (stationOf (t .result .motors)) rest pending (g .got) (m .result .got) (w .result .total) (m .result .n - m .result .from) (t .result .cursor .full) (m .result .more) r (turn-last (stationOf (g .motors)) (stationOf (t .result .motors)) (g .inp) (t .last .1 .1 .1 .0) (t .result .cursor) (g .from) (g .n) (g .got) (g .sent) (g .inv .2) (omega (arith, g .inv .0, g .inv .3)) (g .inv .4) (t .ensures)) (m .ensures .2) (not-true (m .result .more) (c .before .before .before .before .if2 .taken)) is _ _ (c .before .before .finish .ensures .0) (c .before .before .finish .ensures .1 h)
+    let f = c .before .before .finish .ensures in
+    (λ h. end-answered (stationOf (t .result .motors)) rest pending (g .got) (m .result .got) (w .result .total) (g .turns) (m .result .n - m .result .from) (t .result .cursor .full) (m .result .more) r (turn-last (stationOf (g .motors)) (stationOf (t .result .motors)) (g .inp) (t .last .1 .1 .1 .0) (t .result .cursor) (g .from) (g .n) (g .got) (g .sent) (g .turns) (g .inv .2) (omega (arith, g .inv .0, g .inv .3)) (g .inv .4) (t .ensures)) (m .ensures .2) (not-true (m .result .more) (c .before .before .before .before .if2 .taken)) is _ _ (f .0) (f .1 h), λ h e. absurd (true≢false (sym (ap not h) ∙ sym (f .2) ∙ e)))
 
 loop-less : tie.Need-loop-less Inv-loop μ-loop
 loop-less c = search needs
@@ -125,8 +126,8 @@ loop-again c =
     let m = c .before .before .before .before .more-bytes in
     let rest : List ℕ = drop (g .from + t .result .cursor .from) (take (g .n) (g .inp)) in
     let pending : List ℕ = drop (m .result .from) (take (m .result .n) (m .last .0)) in
-    let r : Reached (stationOf (t .result .motors)) rest (g .got) (w .result .total) = turn-on (stationOf (g .motors)) (stationOf (t .result .motors)) (g .inp) (t .last .1 .1 .1 .0) (t .result .cursor) (g .from) (g .n) (g .got) (g .sent) (g .inv .2) (omega (arith, g .inv .0, g .inv .3)) (g .inv .4) (t .ensures) (w .result .total) (w .ensures) in
-    (c .before .before .before .inp2 .given ∙ g .inv .0, c .before .before .before .before .before .before .before .before .before .before .before .before .before .before .out .given ∙ g .inv .1, m .ensures .0, m .ensures .1, reached-next (stationOf (t .result .motors)) rest pending (g .got) (m .result .got) (w .result .total) (t .result .cursor .full) (m .result .more) r (turn-last (stationOf (g .motors)) (stationOf (t .result .motors)) (g .inp) (t .last .1 .1 .1 .0) (t .result .cursor) (g .from) (g .n) (g .got) (g .sent) (g .inv .2) (omega (arith, g .inv .0, g .inv .3)) (g .inv .4) (t .ensures)) (m .ensures .2))
+    let r : Reached (stationOf (t .result .motors)) rest (g .got) (w .result .total) (lessOne (t .result .cursor .full) (g .turns)) = turn-on (stationOf (g .motors)) (stationOf (t .result .motors)) (g .inp) (t .last .1 .1 .1 .0) (t .result .cursor) (g .from) (g .n) (g .got) (g .sent) (g .turns) (g .inv .2) (omega (arith, g .inv .0, g .inv .3)) (g .inv .4) (t .ensures) (w .result .total) (w .ensures) in
+    (c .before .before .before .inp2 .given ∙ g .inv .0, c .before .before .before .before .before .before .before .before .before .before .before .before .before .before .out .given ∙ g .inv .1, m .ensures .0, m .ensures .1, reached-again (stationOf (t .result .motors)) rest pending (g .got) (m .result .got) (w .result .total) (g .turns) (t .result .cursor .full) (m .result .more) r (turn-last (stationOf (g .motors)) (stationOf (t .result .motors)) (g .inp) (t .last .1 .1 .1 .0) (t .result .cursor) (g .from) (g .n) (g .got) (g .sent) (g .turns) (g .inv .2) (omega (arith, g .inv .0, g .inv .3)) (g .inv .4) (t .ensures)) (m .ensures .2) (not-false (m .result .more) (c .if2 .left)))
 
 same-length-5 : tie.Need-same-length-5 Inv-loop μ-loop
 same-length-5 c = search needs
@@ -135,7 +136,10 @@ same-length-6 : tie.Need-same-length-6 Inv-loop μ-loop
 same-length-6 c = search needs
 
 returns-3 : tie.Need-returns-3 Inv-loop μ-loop
-returns-3 c g = absurd (true≢false (sym g))
+returns-3 c =
+    let g = c .before .loop in
+    let none : g .turns ≡ 0 = omega arith in
+    (λ h. absurd (true≢false (sym h)), λ _ _. record { station = stationOf (g .motors); pending = drop (g .from) (take (g .n) (g .inp)); reached = rw none at (g .inv .4) })
 
 pub run-spec : {M : Type 1} → statement M
 run-spec =
