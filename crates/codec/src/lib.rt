@@ -7,6 +7,7 @@ pub mod faults;
 pub mod model;
 pub mod motion;
 pub mod names;
+pub mod parameter_names;
 pub mod protocol;
 pub mod registers;
 pub mod replies;

@@ -11,7 +11,7 @@ ghost use Rattle.codec_abi.specs.Packing.{firstHalf, secondHalf};
 pub extern "C" fn codec_parameter_name(id: u16, first: &mut u64, second: &mut u64) -> usize
     ensures { λ r. ⌜ (r ≡ parameterName id .length) × (now (first .exit) ≡ firstHalf (parameterName id .bytes)) × (now (second .exit) ≡ secondHalf (parameterName id .bytes)) ⌝ }
 {
-    let name = codec::registers::parameter_name(id);
+    let name = codec::parameter_names::parameter_name(id);
     let bytes = name.bytes;
     *first = first_half(bytes);
     *second = second_half(bytes);

@@ -131,9 +131,14 @@ module _ (m : Motor) (f : CanFrame) (now : ℕ) where
   unfolding hearRead
   untaken r = rw r
 
-  pub read-heard-by : hearRead m f now ≡ hearReadBy replying m (partsOf f) f now
+  read-heard-by : hearRead m f now ≡ hearReadBy replying m (partsOf f) f now
   read-heard-by = go (isRead f) refl
     where
       go : (b : Bool) → isRead f ≡ b → hearRead m f now ≡ hearReadBy replying m (partsOf f) f now
       go true r = read-by m f now r ∙ sym (ap (λ (k : Checked). hearReadBy k m (partsOf f) f now) (reply-same r))
       go false r = untaken r ∙ sym (ap (λ (k : Checked). hearReadBy k m (partsOf f) f now) (reply-13 r))
+
+  -- by the parts, the test and the admission as the code has them
+  pub read-heard-at : (p : IdParts) (r : Bool) (k : Checked) → p ≡ partsOf f → r ≡ isReply (f .«is_extended») p → k ≡ frameAdmitted (m .state .«motor_id») (m .state .clock) r p now
+      → hearRead m f now ≡ hearReadBy k m p f now
+  read-heard-at p r k e d c = rw (c, d, e) read-heard-by

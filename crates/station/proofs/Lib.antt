@@ -23,4 +23,5 @@ pub mod EchoAtStation
 pub mod HeldReadings
 pub mod Demand2
 pub mod StationDemands
+pub mod LoneEvents
 pub mod BoundsAtStation

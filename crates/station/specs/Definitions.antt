@@ -43,7 +43,7 @@ use Rattle.codec.proofs.protocol.ext_id_parts.Reads as ext-id-parts
 use Rattle.codec.proofs.protocol.validate_protocol_cmd.Reads as validate-protocol-cmd
 use Rattle.codec.proofs.protocol.protocol_name.Reads as protocol-name
 use Rattle.codec.proofs.registers.parameter_info.Reads as parameter-info
-use Rattle.codec.proofs.registers.parameter_name.Reads as parameter-name
+use Rattle.codec.proofs.parameter_names.parameter_name.Reads as parameter-name
 use Rattle.codec.proofs.registers.ControlMode.from_raw.Reads as from-raw
 use Rattle.codec.proofs.registers.ControlMode.number.Reads as mode-number
 use Rattle.codec.proofs.replies.decode_ping_reply.Reads as decode-ping-reply

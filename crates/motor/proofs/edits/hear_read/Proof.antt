@@ -2,7 +2,7 @@
 use native.Mathlib.Omega.{arith}
 use borrow.Author.Tests.{eq-eqb, ne-eqb}
 use mathlib.Core.Path.{refl}
-use Rattle.motor.proofs.Editing.{read-heard-by}
+use Rattle.motor.proofs.Editing.{read-heard-at}
 use borrow.Author.Needs.{needs}
 use Rattle.motor.proofs.edits.hear_read.Statement.{statement}
 use Rattle.motor.proofs.edits.hear_read.Tie as tie
@@ -27,10 +27,7 @@ returns c = let k = c .before .before in
     let a = k .before .before in
     let x = a .before .before .before .before .before .args in
     rw (
-      read-heard-by (x .m) (x .frame) (x .now),
-      ← a .before .before .ext-id-parts .ensures,
-      ← a .before .is-reply .ensures,
-      ← a .frame-admitted .ensures,
+      read-heard-at (x .m) (x .frame) (x .now) _ _ _ (a .before .before .ext-id-parts .ensures) (a .before .is-reply .ensures) (a .frame-admitted .ensures),
       k .admitted .given .1,
       c .read-kept .ensures,
     )
@@ -57,10 +54,7 @@ returns-2 c = let k = c .before .before in
     let a = q .before .before .before in
     let x = a .before .before .before .before .before .args in
     rw (
-      read-heard-by (x .m) (x .frame) (x .now),
-      ← a .before .before .ext-id-parts .ensures,
-      ← a .before .is-reply .ensures,
-      ← a .frame-admitted .ensures,
+      read-heard-at (x .m) (x .frame) (x .now) _ _ _ (a .before .before .ext-id-parts .ensures) (a .before .is-reply .ensures) (a .frame-admitted .ensures),
       q .before .enum-told .given .1,
       ← k .status-in .ensures,
       ne-eqb _ _ (c .before .if1 .taken),
@@ -89,10 +83,7 @@ returns-3 c = let p = c .before .before .before in
     let a = q .before .before .before in
     let x = a .before .before .before .before .before .args in
     rw (
-      read-heard-by (x .m) (x .frame) (x .now),
-      ← a .before .before .ext-id-parts .ensures,
-      ← a .before .is-reply .ensures,
-      ← a .frame-admitted .ensures,
+      read-heard-at (x .m) (x .frame) (x .now) _ _ _ (a .before .before .ext-id-parts .ensures) (a .before .is-reply .ensures) (a .frame-admitted .ensures),
       q .before .enum-told .given .1,
       ← k .status-in .ensures,
       eq-eqb _ _ (p .before .before .before .if1 .left),
@@ -118,10 +109,7 @@ returns-4 c = let p = c .before .before .before .before in
     let a = q .before .before .before in
     let x = a .before .before .before .before .before .args in
     rw (
-      read-heard-by (x .m) (x .frame) (x .now),
-      ← a .before .before .ext-id-parts .ensures,
-      ← a .before .is-reply .ensures,
-      ← a .frame-admitted .ensures,
+      read-heard-at (x .m) (x .frame) (x .now) _ _ _ (a .before .before .ext-id-parts .ensures) (a .before .is-reply .ensures) (a .frame-admitted .ensures),
       q .before .enum-told .given .1,
       ← k .status-in .ensures,
       eq-eqb _ _ (p .before .before .before .if1 .left),

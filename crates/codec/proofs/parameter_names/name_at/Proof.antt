@@ -4,8 +4,8 @@ use mathlib.Core.Path.{_∙_}
 use native.Mathlib.Omega.{arith}
 use Rattle.codec.specs.Names.{lengthIn}
 use Rattle.codec.proofs.NameTable.{right, past}
-use Rattle.codec.proofs.registers.name_at.Statement.{statement}
-use Rattle.codec.proofs.registers.name_at.Tie as tie
+use Rattle.codec.proofs.parameter_names.name_at.Statement.{statement}
+use Rattle.codec.proofs.parameter_names.name_at.Tie as tie
 
 returns : tie.Need-returns
 unfolding lengthIn

@@ -7,8 +7,8 @@ use native.Mathlib.Omega.{arith}
 use lib.ListN.{getD}
 use Rattle.codec.proofs.KindTable.{rows}
 use Rattle.codec.proofs.NameTable.{past, found, missing}
-use Rattle.codec.proofs.registers.parameter_name.Statement.{statement}
-use Rattle.codec.proofs.registers.parameter_name.Tie as tie
+use Rattle.codec.proofs.parameter_names.parameter_name.Statement.{statement}
+use Rattle.codec.proofs.parameter_names.parameter_name.Tie as tie
 
 abbrev Inv-loop : tie.InvT-loop
 Inv-loop id wanted table i₀ i = (i ≤ 62) × ((k : ℕ) → k < i → getD rows k 0 / 256 ≡ id → ⊥)
