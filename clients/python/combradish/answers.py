@@ -8,7 +8,7 @@ from dataclasses import dataclass
 from typing import assert_never
 
 from .events import answers_of
-from .held import Held, PingReply, held_of
+from .held import Held, PingReply, VersionReply, held_of
 from .refusals import Refusal
 from .values import Frame, Mode, Value, Word, decimal, digits, signed
 
@@ -31,8 +31,8 @@ class ProtocolFlag:
     bits: int
 
 
-# none; ping; mode; value of get_parameter; flag; f32's Word; i8's int
-Result = None | PingReply | Mode | Value | ProtocolFlag | Word | int
+# none; ping; mode; value of get_parameter; flag; f32's Word; i8's int; version
+Result = None | PingReply | Mode | Value | ProtocolFlag | Word | int | VersionReply
 
 
 def result_text(result: Result) -> str:
@@ -52,6 +52,8 @@ def result_text(result: Result) -> str:
             return f"f32 {result:08X}"
         case int():
             return f"i8 {result}"
+        case VersionReply():
+            return f"version {result.text}"
     assert_never(result)
 
 
@@ -72,6 +74,8 @@ def result_of(words: list[str]) -> Result:
             return Word(digits(bits, 8))
         case ["i8", number]:
             return signed(number)
+        case ["version", *rest]:
+            return VersionReply.parse(rest)
     raise ValueError("it isn't a result")
 
 

@@ -43,7 +43,7 @@ def shape_of(name: str) -> str:
 
 @dataclass(frozen=True)
 class Command:
-    """An operation: the Rust method's name and its arguments. Made by the constructors below, which are the rows of COMMANDS."""
+    """An operation: the Rust method's name, or get_version, and its arguments. Made by the constructors below, which are the rows of COMMANDS."""
 
     name: str
     arguments: Arguments = ()
@@ -160,3 +160,7 @@ class Command:
     @row("HT")
     def get_parameter_i8(parameter: int, timeout: int) -> Arguments:
         return parameter, timeout
+
+    @row("")
+    def get_version() -> Arguments:
+        return ()

@@ -32,6 +32,23 @@ class PingReply:
         return PingReply(digits(device, 2), digits(responder, 2), digits(payload, 16).to_bytes(8, "big"))
 
 
+@dataclass(frozen=True)
+class VersionReply:
+    """A firmware's version: its four bytes in order."""
+
+    device: int
+    version: bytes
+
+    @property
+    def text(self) -> str:
+        return f"{self.device:02X} {self.version.hex().upper()}"
+
+    @staticmethod
+    def parse(words: list[str]) -> VersionReply:
+        device, version = words
+        return VersionReply(digits(device, 2), digits(version, 8).to_bytes(4, "big"))
+
+
 def flags_of(text: str, names: tuple[str, ...]) -> tuple[str, ...]:
     """Flags' names in rising bit order, or - for none."""
     flags = () if text == "-" else tuple(text.split(","))
@@ -126,7 +143,7 @@ class Reading:
 
 @dataclass(frozen=True)
 class Held:
-    """All that is held for a motor."""
+    """All that is held for a motor. The version is the answer that the running get_version has so far."""
 
     id: int
     host: int
@@ -138,6 +155,7 @@ class Held:
     feedback: Feedback | None
     fault: Fault | None
     ping: PingReply | None
+    version: VersionReply | None
     kp: Word
     kd: Word
     running: Running | None
@@ -146,7 +164,7 @@ class Held:
     def lines(self) -> list[str]:
         first = f"motor {self.id:02X} {self.host:02X} {self.model} {self.wait}"
         counts = [f"clock {self.clock}", f"responses {self.responses}", f"sequence {self.sequence}"]
-        parts = {"feedback": self.feedback, "fault": self.fault, "ping": self.ping}
+        parts = {"feedback": self.feedback, "fault": self.fault, "ping": self.ping, "version": self.version}
         held = [f"{name} {part.text if part else 'none'}" for name, part in parts.items()]
         rest = [f"gains {self.kp:08X} {self.kd:08X}", f"running {self.running.text if self.running else 'none'}"]
         readings = [f"reading {id:04X} {reading.text}" for id, reading in self.readings.items()]
@@ -157,7 +175,7 @@ def held_of(first: str, after: Callable[[str], list[str]], line: Callable[[], st
     """A look's answer from its first line on. `after` gives the next line's words after its name."""
     name, id, host, model, wait = first.split(" ")
     (clock,), (responses,), (sequence,) = after("clock"), after("responses"), after("sequence")
-    feedback, fault, ping = after("feedback"), after("fault"), after("ping")
+    feedback, fault, ping, version = after("feedback"), after("fault"), after("ping"), after("version")
     (kp, kd), running = after("gains"), after("running")
     none = ["none"]
     readings: dict[int, Reading] = {}
@@ -169,6 +187,6 @@ def held_of(first: str, after: Callable[[str], list[str]], line: Callable[[], st
     return Held(
         digits(id, 2), digits(host, 2), plain_word("a model", model), decimal(wait), decimal(clock), decimal(responses),
         decimal(sequence), None if feedback == none else Feedback.parse(feedback), None if fault == none else Fault.parse(fault),
-        None if ping == none else PingReply.parse(ping), Word(digits(kp, 8)), Word(digits(kd, 8)),
-        None if running == none else Running.parse(running), readings,
+        None if ping == none else PingReply.parse(ping), None if version == none else VersionReply.parse(version),
+        Word(digits(kp, 8)), Word(digits(kd, 8)), None if running == none else Running.parse(running), readings,
     )  # fmt: skip

@@ -58,6 +58,7 @@ pub enum Outcome {
     Flag(u8),
     F32(Word),
     I8(i8),
+    Version(Version),
 }
 
 /// A ping reply.
@@ -66,6 +67,13 @@ pub struct Ping {
     pub device: u8,
     pub responder: u8,
     pub payload: [u8; 8],
+}
+
+/// A firmware's version: its four bytes in order.
+#[derive(Clone, Copy, Debug, PartialEq, Eq)]
+pub struct Version {
+    pub device: u8,
+    pub version: [u8; 4],
 }
 
 /// The answer of a look.
@@ -140,6 +148,7 @@ impl fmt::Display for Outcome {
             Outcome::Flag(flag) => write!(f, "flag {flag:02X}"),
             Outcome::F32(word) => write!(f, "f32 {word}"),
             Outcome::I8(value) => write!(f, "i8 {value}"),
+            Outcome::Version(version) => write!(f, "version {version}"),
         }
     }
 }
@@ -148,6 +157,13 @@ impl fmt::Display for Ping {
     fn fmt(&self, f: &mut fmt::Formatter) -> fmt::Result {
         let payload = Data::from(self.payload);
         write!(f, "{:02X} {:02X} {payload}", self.device, self.responder)
+    }
+}
+
+impl fmt::Display for Version {
+    fn fmt(&self, f: &mut fmt::Formatter) -> fmt::Result {
+        let bytes = u32::from_be_bytes(self.version);
+        write!(f, "{:02X} {bytes:08X}", self.device)
     }
 }
 

@@ -1,4 +1,4 @@
-//! Commands, by the Rust's methods.
+//! Commands, by the Rust's methods; `get_version` is document 02's (T-01).
 use crate::shape::{self, table};
 use crate::value::{Mode, Value, Word};
 
@@ -31,6 +31,7 @@ table! {
     "get_parameter_with_host_id" GetParameterWithHostId { id: u16 'H', host: u16 'I', timeout: u64 'T' };
     "get_parameter_f32" GetParameterF32 { id: u16 'H', timeout: u64 'T' };
     "get_parameter_i8" GetParameterI8 { id: u16 'H', timeout: u64 'T' };
+    "get_version" GetVersion;
 }
 
 /// Every command's name.

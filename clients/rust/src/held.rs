@@ -1,5 +1,5 @@
 //! What is held for a motor, as a look shows it.
-use crate::answer::Ping;
+use crate::answer::{Ping, Version};
 use crate::flags::{self, FaultFlag, StateFlag, WarningFlag};
 use crate::name::Model;
 use crate::value::{Value, Word};
@@ -15,6 +15,8 @@ pub struct Held {
     pub feedback: Option<Feedback>,
     pub fault: Option<Fault>,
     pub ping: Option<Ping>,
+    /// The answer that the running get_version has so far.
+    pub version: Option<Version>,
     pub gains: Gains,
     pub running: Option<Running>,
     /// In rising parameter id.
@@ -99,6 +101,7 @@ impl fmt::Display for Held {
         writeln!(f, "feedback {}", or_none(&self.feedback))?;
         writeln!(f, "fault {}", or_none(&self.fault))?;
         writeln!(f, "ping {}", or_none(&self.ping))?;
+        writeln!(f, "version {}", or_none(&self.version))?;
         writeln!(f, "gains {} {}", self.gains.kp, self.gains.kd)?;
         writeln!(f, "running {}", or_none(&self.running))?;
         for reading in &self.readings {

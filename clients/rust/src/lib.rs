@@ -38,7 +38,7 @@ mod shape;
 mod station;
 mod value;
 
-pub use answer::{Answer, Looked, Outcome, Ping, Reply, Said, SentFrame, Taken};
+pub use answer::{Answer, Looked, Outcome, Ping, Reply, Said, SentFrame, Taken, Version};
 pub use command::{Command, COMMANDS};
 pub use error::Error;
 pub use event::{Event, Form, Frame};

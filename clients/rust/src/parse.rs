@@ -1,6 +1,6 @@
 //! Lines as answers. A parser may be lenient by itself: an answer is taken only where it prints again
 //! as it came, to the byte. What isn't taken gives the first line that is wrong.
-use crate::answer::{Answer, Looked, Outcome, Ping, Reply, Said, SentFrame, Taken};
+use crate::answer::{Answer, Looked, Outcome, Ping, Reply, Said, SentFrame, Taken, Version};
 use crate::command::COMMANDS;
 use crate::event::Form;
 use crate::flags;
@@ -129,6 +129,7 @@ fn outcome(result: &[&str]) -> Option<Outcome> {
         ["flag", flag] => Outcome::Flag(hex_byte(flag)?),
         ["f32", bits] => Outcome::F32(word(bits)?),
         ["i8", value] => Outcome::I8(value.parse().ok()?),
+        ["version", rest @ ..] => Outcome::Version(version(rest)?),
         _ => return None,
     })
 }
@@ -141,6 +142,16 @@ fn ping(words: &[&str]) -> Option<Ping> {
         device: hex_byte(device)?,
         responder: hex_byte(responder)?,
         payload: payload(data)?,
+    })
+}
+
+fn version(words: &[&str]) -> Option<Version> {
+    let [device, bytes] = words else {
+        return None;
+    };
+    Some(Version {
+        device: hex_byte(device)?,
+        version: hex(bytes)?.to_be_bytes(),
     })
 }
 
@@ -175,8 +186,9 @@ fn held(lines: &[String]) -> Parsed<Held> {
         feedback: line(lines, 4, |line| held_in(line, "feedback", feedback))?,
         fault: line(lines, 5, |line| held_in(line, "fault", fault))?,
         ping: line(lines, 6, |line| held_in(line, "ping", ping))?,
-        gains: line(lines, 7, |line| gains(&after(line, "gains")?))?,
-        running: line(lines, 8, |line| held_in(line, "running", running))?,
+        version: line(lines, 7, |line| held_in(line, "version", version))?,
+        gains: line(lines, 8, |line| gains(&after(line, "gains")?))?,
+        running: line(lines, 9, |line| held_in(line, "running", running))?,
         readings: readings(lines)?,
     };
     let end = |line: &str| (line == "end").then_some(());
@@ -184,12 +196,15 @@ fn held(lines: &[String]) -> Parsed<Held> {
     Ok(held)
 }
 
-/// The readings between line 9 and the last: at most 96, in rising id.
+/// The line of a look's first reading, counted from 0.
+const READINGS_FROM: usize = 10;
+
+/// The readings between it and the last: at most 96, in rising id.
 fn readings(lines: &[String]) -> Parsed<Vec<Reading>> {
     let mut found: Vec<Reading> = Vec::new();
-    for k in 9..lines.len().saturating_sub(1) {
+    for k in READINGS_FROM..lines.len().saturating_sub(1) {
         let above = found.last().map(|read| read.parameter);
-        let rises = |read: &Reading| above < Some(read.parameter) && k < 9 + 96;
+        let rises = |read: &Reading| above < Some(read.parameter) && k < READINGS_FROM + 96;
         found.push(line(lines, k, |line| {
             reading(&after(line, "reading")?).filter(rises)
         })?);

@@ -8,6 +8,7 @@ sequence 1
 feedback 02BF07AB 07 2 41490FDB C2480000 00000000 3DCCCCCD undervoltage,stall,uncalibrated
 fault 00010005 00000000 overtemperature,undervoltage,phase_a_overcurrent -
 ping 07 AB 0102030405060708
+version 07 00030107
 gains 7FC00001 40A00000
 running controlled_stop due 360
 reading 2000 U16 1234
@@ -44,6 +45,8 @@ fn all_that_is_held() {
     assert_eq!(fault.faults[2], FaultFlag::PhaseAOvercurrent);
     assert!(fault.warnings.is_empty());
     assert_eq!(held.ping.expect("a ping reply").payload[7], 8);
+    let version = held.version.expect("a version");
+    assert_eq!((version.device, version.version), (7, [0, 3, 1, 7]));
     assert_eq!(held.gains.kp, Word(0x7FC0_0001));
     assert_eq!(
         held.running.map(|r| (r.command, r.due)),
@@ -81,6 +84,9 @@ fn looks_that_are_none() {
         ),
         ("_overcurrent -", "_overcurrent", "fault 00010005"),
         ("ping 07 AB 01", "ping 07 AB ", "ping 07 AB "),
+        ("version 07", "version 7", "version 7 00030107"),
+        ("00030107", "0003010", "version 07 0003010"),
+        ("version 07 00030107\n", "", "gains 7FC00001"),
         ("40A00000", "40a00000", "gains 7FC00001 40a00000"),
         ("controlled_stop", "stop", "running stop due 360"),
         ("reading 2000", "reading 7006", "reading 7005 I8 FF"),

@@ -31,6 +31,7 @@ use Rattle.motor.specs.declared.engine.command.Said.{Said}
 use Rattle.motor.specs.declared.engine.command.Said.the-variants as said
 use Rattle.motor.specs.declared.engine.operation.Gains.{Gains}
 use Rattle.motor.specs.declared.engine.operation.HeldPing.{HeldPing}
+use Rattle.motor.specs.declared.engine.operation.HeldVersion.{HeldVersion}
 use Rattle.motor.specs.declared.engine.operation.Operation.{Operation}
 use Rattle.motor.specs.declared.feedback.Latest.{Latest}
 use Rattle.motor.specs.declared.feedback.Latest.the-variants as latest
@@ -51,8 +52,8 @@ use Rattle.text.specs.Words.{wordAt}
 use Rattle.text.proofs.TextLengths.{Short, words, none, wider, _&_, either, digits-short, decimal-short, widthsOf, fields-short, word-short, wordsUpto, words-few}
 use Rattle.answers.specs.Values.{namedText, lineText, endOfLine, space, valueText, signedText, payloadNumber}
 use Rattle.answers.specs.Names.{modePlace, commandPlace}
-use Rattle.answers.specs.Said.{okText, lastText, valuesText, refusedText, toldText, stampText, frameText, pingText, outcomeText, finishedText, sentText, lastLine, saidText}
-use Rattle.answers.specs.Looks.{motorText, toldStateText, feedbackText, reportText, faultText, heldPingText, gainsText, runningText, stateText, readingText, readingsUpto, readingsText, seenText, lookedBy, lookedText, least}
+use Rattle.answers.specs.Said.{okText, lastText, valuesText, refusedText, toldText, stampText, frameText, pingText, versionText, outcomeText, finishedText, sentText, lastLine, saidText}
+use Rattle.answers.specs.Looks.{motorText, toldStateText, feedbackText, reportText, faultText, heldPingText, heldVersionText, gainsText, runningText, stateText, readingText, readingsUpto, readingsText, seenText, lookedBy, lookedText, least}
 use Rattle.answers.specs.Flags.{flagText, flagsUpto, flagsText, stateFlagsText, faultFlagsText, warningFlagsText}
 
 -- ---- flags
@@ -135,6 +136,10 @@ ping-short : (device responder : ℕ) (payload : List ℕ) → Short (pingText d
 unfolding pingText
 ping-short device responder payload = words (ascii "ping") & fields-short _ (ascii "22P")
 
+version-short : (device : ℕ) (v : List ℕ) → Short (versionText device v) 19
+unfolding versionText
+version-short device v = words (ascii "version") & fields-short _ (ascii "28")
+
 outcome-short : (o : Outcome) (result : List ℕ) → Short (outcomeText o result) 27
 unfolding outcomeText
 outcome-short outcome.Done result = wider (words (ascii "none")) (omega arith)
@@ -144,6 +149,7 @@ outcome-short (outcome.Value v) result = wider (words (ascii "value ") & value-s
 outcome-short (outcome.Flag flag) result = wider (named-short (ascii "flag") flag (ascii "2")) (omega arith)
 outcome-short (outcome.F32 w) result = wider (named-short (ascii "f32") (w .bits) (ascii "8")) (omega arith)
 outcome-short (outcome.I8 v) result = wider (words (ascii "i8 ") & signed-short v) (omega arith)
+outcome-short (outcome.Version device) result = wider (version-short device result) (omega arith)
 
 finished-short : (o : Outcome) (result : List ℕ) → Short (finishedText o result) 37
 unfolding finishedText
@@ -176,7 +182,7 @@ abbrev readingBytes : ℕ
 readingBytes = 26
 
 abbrev stateBytes : ℕ
-stateBytes = 1380
+stateBytes = 1400
 
 abbrev pub lookBytes : ℕ
 lookBytes = stateBytes + readingBytes * mostReadings + 4
@@ -212,6 +218,10 @@ held-ping-short : (p : HeldPing) → Short (heldPingText p) 28
 unfolding heldPingText
 held-ping-short p = either (p .held) (ping-short _ _ _ & words endOfLine) (wider (words (ascii "ping none\n")) (omega arith))
 
+held-version-short : (v : HeldVersion) → Short (heldVersionText v) 20
+unfolding heldVersionText
+held-version-short v = either (v .held) (version-short _ _ & words endOfLine) (wider (words (ascii "version none\n")) (omega arith))
+
 gains-short : (g : Gains) → Short (gainsText g) 24
 unfolding gainsText
 gains-short g = words (ascii "gains") & fields-short _ (ascii "88") & words endOfLine
@@ -228,7 +238,7 @@ unfolding stateText
 held-short s =
     motor-short _ _ _ _ & line-short (ascii "clock") (s .clock) (ascii "D")
     & line-short (ascii "responses") (s .responses) (ascii "D") & line-short (ascii "sequence") (s .feedback .sequence) (ascii "D")
-    & feedback-short (s .feedback .latest) & fault-short (s .«fault_report») & held-ping-short (s .«ping_reply») & gains-short (s .gains) & running-short (s .operation) (s .command)
+    & feedback-short (s .feedback .latest) & fault-short (s .«fault_report») & held-ping-short (s .«ping_reply») & held-version-short (s .operation .answer) & gains-short (s .gains) & running-short (s .operation) (s .command)
 
 reading-short : (e : Entry) → Short (readingText e) readingBytes
 unfolding readingText

@@ -13,6 +13,7 @@ use Rattle.codec.specs.Words.{wordOf}
 use Rattle.motor.specs.declared.engine.command.Command.{Command}
 use Rattle.motor.specs.declared.engine.operation.Gains.{Gains}
 use Rattle.motor.specs.declared.engine.operation.HeldPing.{HeldPing}
+use Rattle.motor.specs.declared.engine.operation.HeldVersion.{HeldVersion}
 use Rattle.motor.specs.declared.engine.operation.Operation.{Operation}
 use Rattle.motor.specs.declared.feedback.Latest.{Latest}
 use Rattle.motor.specs.declared.feedback.Latest.the-variants as latest
@@ -32,7 +33,7 @@ use Rattle.text.specs.Fields.{fieldsText}
 use Rattle.answers.specs.Values.{numbersText, namedText, lineText, endOfLine, space, valueText}
 use Rattle.answers.specs.Names.{commandText}
 use Rattle.answers.specs.Flags.{stateFlagsText, faultFlagsText, warningFlagsText}
-use Rattle.answers.specs.Said.{pingText, refusedText}
+use Rattle.answers.specs.Said.{pingText, versionText, refusedText}
 
 -- motor ID HOST MODEL WAIT
 unfoldable pub motorText : ℕ → ℕ → Model → ℕ → List ℕ
@@ -64,6 +65,10 @@ faultText (fault.Report r) = reportText r
 unfoldable pub heldPingText : HeldPing → List ℕ
 heldPingText p = cond (p .held) (pingText (p .reply .«device_id») (p .reply .«responder_id») (p .reply .payload) ++ endOfLine) (ascii "ping none\n")
 
+-- version DEVICE BYTES: the answer that the running get_version has so far
+unfoldable pub heldVersionText : HeldVersion → List ℕ
+heldVersionText v = cond (v .held) (versionText (v .reply .«device_id») (v .reply .version) ++ endOfLine) (ascii "version none\n")
+
 -- gains KP KD
 unfoldable pub gainsText : Gains → List ℕ
 gainsText g = ascii "gains" ++ numbersText (g .kp .bits) (g .kd .bits) (ascii "88") ++ endOfLine
@@ -81,6 +86,7 @@ stateText s =
     ++ feedbackText (s .feedback .latest)
     ++ faultText (s .«fault_report»)
     ++ heldPingText (s .«ping_reply»)
+    ++ heldVersionText (s .operation .answer)
     ++ gainsText (s .gains)
     ++ runningText (s .operation) (s .command)
 

@@ -1,6 +1,7 @@
 -- What is said to an event other than a look. Definitions only.
 use Prim.Native.Nat.{ℕ, _/_, _%_}
 use mathlib.Core.List.{List, [], _∷_, _++_}
+use lib.ListN.{getD}
 use Rattle.codec.specs.declared.bus.CanFrame.{CanFrame}
 use Rattle.codec.specs.declared.error.Checked.{Checked}
 use Rattle.codec.specs.declared.error.Checked.the-variants as checked
@@ -15,7 +16,7 @@ use Rattle.motor.specs.declared.engine.command.Said.the-variants as said
 use Rattle.text.specs.Ascii.{ascii}
 use Rattle.text.specs.Fields.{fieldsText}
 use Rattle.text.specs.Put.{digitsText, decimalText}
-use Rattle.answers.specs.Values.{namedText, lineText, endOfLine, space, valueText, signedText, payloadNumber}
+use Rattle.answers.specs.Values.{numbersText, namedText, lineText, endOfLine, space, valueText, signedText, fourOf, payloadNumber}
 use Rattle.answers.specs.Names.{modeText}
 
 abbrev pub okText : List ℕ
@@ -62,6 +63,10 @@ frameText f time = frameLine f time ++ endOfLine
 unfoldable pub pingText : ℕ → ℕ → List ℕ → List ℕ
 pingText device responder payload = ascii "ping" ++ fieldsText (device ∷ responder ∷ payloadNumber payload ∷ 0 ∷ 0 ∷ 0 ∷ 0 ∷ 0 ∷ []) (ascii "22P")
 
+-- version DEVICE BYTES: the first four bytes in order
+unfoldable pub versionText : ℕ → List ℕ → List ℕ
+versionText device v = ascii "version" ++ numbersText device (fourOf (getD v 0 0) (getD v 1 0) (getD v 2 0) (getD v 3 0)) (ascii "28")
+
 unfoldable pub outcomeText : Outcome → List ℕ → List ℕ
 outcomeText outcome.Done result = ascii "none"
 outcomeText (outcome.Ping device responder) result = pingText device responder result
@@ -70,6 +75,7 @@ outcomeText (outcome.Value v) result = ascii "value " ++ valueText v
 outcomeText (outcome.Flag flag) result = namedText (ascii "flag") flag (ascii "2")
 outcomeText (outcome.F32 w) result = namedText (ascii "f32") (w .bits) (ascii "8")
 outcomeText (outcome.I8 v) result = ascii "i8 " ++ signedText v
+outcomeText (outcome.Version device) result = versionText device result
 
 -- finished RESULT
 unfoldable pub finishedText : Outcome → List ℕ → List ℕ

@@ -45,6 +45,7 @@ signedByte b = cond (ltb b 128) (decimalText b) ((0x2D ∷ []) ++ decimalText (2
 unfoldable pub signedText : ℤ → List ℕ
 signedText v = signedByte (ofZ w8 v)
 
+-- four bytes as one number, the first highest
 abbrev pub fourOf : ℕ → ℕ → ℕ → ℕ → ℕ
 fourOf a b c d = a * 0x100_0000 + b * 0x1_0000 + c * 0x100 + d
 

@@ -6,6 +6,7 @@ use crate::names::put_command;
 use crate::names::put_model;
 use crate::said::put_ping;
 use crate::said::put_refused;
+use crate::said::put_version;
 use crate::values::put_line;
 use crate::values::put_named;
 use crate::values::put_numbers;
@@ -17,6 +18,7 @@ use codec::word::word_of;
 use motor::engine::command::Command;
 use motor::engine::operation::Gains;
 use motor::engine::operation::HeldPing;
+use motor::engine::operation::HeldVersion;
 use motor::engine::operation::Operation;
 use motor::engine::operation::Phase;
 use motor::feedback::Latest;
@@ -71,9 +73,11 @@ fn put_state(s: State, out: &mut [u8], at: usize) -> usize
     let p = put_fault(fault, out, p);
     let ping = s.ping_reply;
     let p = put_held_ping(ping, out, p);
+    let operation = s.operation;
+    let answer = operation.answer;
+    let p = put_held_version(answer, out, p);
     let gains = s.gains;
     let p = put_gains(gains, out, p);
-    let operation = s.operation;
     let command = s.command;
     put_running(operation, command, out, p)
 }
@@ -166,6 +170,19 @@ fn put_held_ping(ping: HeldPing, out: &mut [u8], at: usize) -> usize
         return text::put_byte(out, p, b'\n');
     }
     text::put_bytes(out, at, b"ping none\n")
+}
+
+// version DEVICE BYTES: the answer that the running get_version has so far
+fn put_held_version(answer: HeldVersion, out: &mut [u8], at: usize) -> usize
+    ensures { λ r. ⌜ Put (now (out .entry)) at (spec.heldVersionText answer) (now (out .exit)) r ⌝ }
+{
+    if answer.held {
+        let reply = answer.reply;
+        let v = reply.version;
+        let p = put_version(reply.device_id, v[0], v[1], v[2], v[3], out, at);
+        return text::put_byte(out, p, b'\n');
+    }
+    text::put_bytes(out, at, b"version none\n")
 }
 
 // gains KP KD

@@ -92,5 +92,6 @@ fn command_place(command: Command) -> u8
         Command::GetParameterWithHostId(_, _, _) => 22,
         Command::GetParameterF32(_, _) => 23,
         Command::GetParameterI8(_, _) => 24,
+        Command::GetVersion => 25,
     }
 }

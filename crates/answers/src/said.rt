@@ -1,8 +1,10 @@
 // What is said to an event other than a look, with the frame sent on the line before it.
 use crate::names::put_mode;
+use crate::values::four_of;
 use crate::values::payload_number;
 use crate::values::put_line;
 use crate::values::put_named;
+use crate::values::put_numbers;
 use crate::values::put_signed;
 use crate::values::put_value;
 use codec::bus::CanFrame;
@@ -13,6 +15,7 @@ use codec::error::number;
 use motor::engine::command::Outcome;
 use motor::engine::command::Said;
 ghost use mathlib.Core.Path.{_≡_};
+ghost use mathlib.Core.List.{[], _∷_};
 ghost use Rattle.text.specs.Put.{Put};
 ghost use Rattle.answers.specs.Said as spec;
 
@@ -158,6 +161,15 @@ fn put_outcome(outcome: Outcome, result: [u8; 8], out: &mut [u8], at: usize) -> 
             let p = text::put_bytes(out, at, b"i8 ");
             put_signed(v, out, p)
         }
+        Outcome::Version(device) => put_version(
+            device,
+            result[0],
+            result[1],
+            result[2],
+            result[3],
+            out,
+            at,
+        ),
     }
 }
 
@@ -175,4 +187,21 @@ pub(crate) fn put_ping(
     let p = text::put_bytes(out, at, b"ping");
     let v = [device as u64, responder as u64, n, 0, 0, 0, 0, 0];
     text::put_fields(v, b"22P", out, p)
+}
+
+// version DEVICE BYTES: the four bytes in order
+pub(crate) fn put_version(
+    device: u8,
+    a: u8,
+    b: u8,
+    c: u8,
+    d: u8,
+    out: &mut [u8],
+    at: usize,
+) -> usize
+    ensures { λ r. ⌜ Put (now (out .entry)) at (spec.versionText device (a ∷ b ∷ c ∷ d ∷ [])) (now (out .exit)) r ⌝ }
+{
+    let n = four_of(a, b, c, d);
+    let p = text::put_bytes(out, at, b"version");
+    put_numbers(device as u64, n, b"28", out, p)
 }

@@ -62,7 +62,8 @@ pub(crate) fn payload_number(d: [u8; 8]) -> u64
     four_of(d[0], d[1], d[2], d[3]) * 0x1_0000_0000 + four_of(d[4], d[5], d[6], d[7])
 }
 
-fn four_of(a: u8, b: u8, c: u8, d: u8) -> u64
+// Four bytes as one number, the first highest.
+pub(crate) fn four_of(a: u8, b: u8, c: u8, d: u8) -> u64
     ensures { λ r. ⌜ (r ≡ spec.fourOf a b c d) × (r < 0x1_0000_0000) ⌝ }
 {
     a as u64 * 0x100_0000 + b as u64 * 0x1_0000 + c as u64 * 0x100 + d as u64

@@ -10,10 +10,10 @@ use Rattle.codec.specs.declared.bus.CanFrame.{CanFrame}
 use Rattle.codec.specs.declared.error.Checked.{Checked}
 use Rattle.codec.specs.declared.error.Checked.the-variants as checked
 use Rattle.codec.specs.Kinds.{among}
-use Rattle.codec.specs.Refusals.{numberOf}
 use Rattle.motor.specs.declared.engine.command.Command.{Command}
 use Rattle.motor.specs.declared.engine.command.Said.{Said}
 use Rattle.motor.specs.declared.engine.command.Said.the-variants as said
+use Rattle.motor.specs.declared.engine.operation.HeldVersion.{HeldVersion}
 use Rattle.motor.specs.declared.engine.operation.Move.{Move}
 use Rattle.motor.specs.declared.engine.operation.Operation.{Operation}
 use Rattle.motor.specs.declared.engine.operation.Phase.{Phase}
@@ -25,12 +25,14 @@ use Rattle.motor.specs.Calls.{isIdle, arguedOf, orElse, startSaid, stepS
 use Rattle.motor.specs.Lone.{Lone, LoneAnswered, loneNew, loneMoved, loneStartBy, loneStart, loneStepBy, loneStep, hears}
 use Rattle.motor.specs.engine.Operations.{beginsWith}
 use Rattle.motor.specs.Readings.{lookup, room}
-use Rattle.motor.specs.Receive.{acceptsFrame, isOutOfTime, countedAt, toldBy, isRead, readId, readStatus, frameSaid, stateAfter}
+use Rattle.motor.specs.Receive.{acceptsFrame, isOutOfTime, countedAt, toldBy, withAnswer, answerTaken, isRead, readId, readStatus, frameSaid, stateAfter}
 use Rattle.motor.specs.engine.Run.{advanced, begunBy}
 use Rattle.motor.proofs.Commands.{begins-paced, frames-within, limit-within, steps-within}
 use Rattle.motor.proofs.Measures.{by-test, nodeLeft, restLeft, phaseLeft, opLeft}
 use Rattle.motor.proofs.MovesBounded.{Moved, enter-moves, advance-moves}
 use Rattle.motor.proofs.Pauses.{pausesBy, late-pauses}
+use Rattle.motor.proofs.Receiving.{either-rule}
+use Rattle.motor.proofs.ReceivingTheorems.{lone-keeps-operation}
 
 -- ---- the moves of a start and of a step; a frame makes none
 
@@ -54,16 +56,6 @@ step-moves f d most now far l small near =
     advance-moves f d most now far (sightOf (l .state)) (opOf l) small near (opOf l .phase) (wanted (opOf l .phase) (λ id. lookup id (l .readings)))
     (omega arith)
 
--- a frame leaves the operation
-frame-keeps : (l : Lone) (x : CanFrame) (now : ℕ) → opOf (hears l x now .lone) ≡ opOf l
-unfolding hears stateAfter toldBy countedAt
-frame-keeps l x now = go (frameSaid (l .state) x now (not (room (readId x) (l .readings))))
-  where
-    go : (said : Checked) → stateAfter said (l .state) x now .operation ≡ opOf l
-    go checked.Passed = refl
-    go (checked.Refused r) =
-        by-test (λ t (s : State). s .operation ≡ opOf l) (among (numberOf r) (14 ∷ 15 ∷ [])) (λ e. refl) (λ e. refl)
-
 -- ---- what is left falls by what is sent and by each due step
 
 module _ (f d : ℕ) where
@@ -72,6 +64,12 @@ module _ (f d : ℕ) where
   left-rest phase.Idle op e = let z : _≡_ {A = ℕ} 0 1 = cc in absurd (omega arith)
   left-rest (phase.Pausing k) op e = refl
   left-rest (phase.Waiting w) op e = refl
+
+  -- get_version's answer has no weight
+  answer-weighs-nothing : (p : Phase) (op : Operation) (v : HeldVersion) → phaseLeft f d p (withAnswer op v) ≡ phaseLeft f d p op
+  answer-weighs-nothing phase.Idle op v = refl
+  answer-weighs-nothing (phase.Pausing k) op v = refl
+  answer-weighs-nothing (phase.Waiting w) op v = refl
 
   -- a step is due or early
   either-way : (t : Bool) → cond t d 0 + cond (not t) d 0 ≡ d
@@ -108,7 +106,8 @@ module _ (f d : ℕ) where
   spends : (l : Lone) (e : LoneEvent) → isIdle (opOf l .phase) ≡ false → Spends l (afterEvent l e) (sends l e) (isDue l e)
   spends l (start c now) i = omega (arith, start-spends l c now (opOf l .phase) i)
   spends l (step now) i = step-spends l now i
-  spends l (frame x now) i = omega (arith, ap (opLeft f d) (frame-keeps l x now))
+  spends l (frame x now) i =
+      omega (arith, ap (opLeft f d) (lone-keeps-operation l x now .0), answer-weighs-nothing (opOf l .phase) (opOf l) (opOf (hears l x now .lone) .answer))
   spends l other i = omega arith
 
 -- a number that falls with each event counted bounds the count
@@ -164,7 +163,7 @@ step-timely l now h = go (stepSaid (l .state .clock) (opOf l .phase) now) refl
 
 -- a frame moves the clock forward only
 frame-timely : (l : Lone) (x : CanFrame) (now : ℕ) → Timely (l .state) → Timely (hears l x now .lone .state)
-unfolding hears stateAfter frameSaid toldBy countedAt among
+unfolding hears stateAfter frameSaid answerTaken toldBy countedAt among
 frame-timely l x now h =
     by-test (λ t r. Timely (stateAfter r (l .state) x now)) (not (acceptsFrame (l .state .«motor_id») x)) (λ e. h)
     (λ e.
@@ -172,7 +171,8 @@ frame-timely l x now h =
     (λ e.
     let later : Timely (countedAt (l .state) now) = (h .0, omega (arith, h .1, on-time (l .state .clock) now e)) in
     by-test (λ t r. Timely (stateAfter r (l .state) x now)) (isRead x && not (eqb (readStatus x) 0)) (λ e. later)
-    (λ e. by-test (λ t r. Timely (stateAfter r (l .state) x now)) (isRead x && not (room (readId x) (l .readings))) (λ e. later) (λ e. later))))
+    (λ e. by-test (λ t r. Timely (stateAfter r (l .state) x now)) (isRead x && not (room (readId x) (l .readings))) (λ e. later)
+    (λ e. either-rule Timely (countedAt (l .state) now) x later later))))
 
 -- whatever comes
 timely : (l : Lone) (es : List LoneEvent) → Timely (l .state) → Timely (afterEvents l es .state)

@@ -22,9 +22,10 @@ use Rattle.motor.specs.Calls.{isIdle, arguedOf, startAdmitted, startSaid
 use Rattle.motor.specs.Lone.{Lone, LoneAnswered, LoneHeard, loneRefused, loneMoved, loneStart, loneStartBy, loneStep, loneStepBy, hears}
 use Rattle.motor.specs.Numbers.{firstOf}
 use Rattle.motor.specs.Readings.{lookup, insert, room}
-use Rattle.motor.specs.Receive.{acceptsFrame, isOutOfTime, isRead, countedAt, toldBy, readStatus, readId, readStored, frameSaid, stateAfter, readingsAfter}
+use Rattle.motor.specs.Receive.{acceptsFrame, isOutOfTime, isRead, countedAt, toldBy, answerTaken, readStatus, readId, readStored, frameSaid, stateAfter, readingsAfter}
 use Rattle.motor.specs.engine.Run.{noOperation, advanced, begunBy}
 use Rattle.motor.proofs.Ends.{Closed, Ends, begin-ends, advance-ends}
+use Rattle.motor.proofs.Receiving.{either-rule}
 use Rattle.motor.proofs.Stays.{movesBy, moves, heardMoves, Stays, start-stays, step-stays, argued-passed, running}
 
 -- ---- a move moves the clock
@@ -123,12 +124,12 @@ module _ (l : Lone) (f : CanFrame) (now : ℕ) where
 
   frame-clock : (a b c d : Bool)
       → heardBy (tested a b c d) .lone .state .clock ≡ cond (heardMoves (tested a b c d)) now (l .state .clock)
-  unfolding stateAfter countedAt toldBy among
+  unfolding stateAfter answerTaken countedAt toldBy among
   frame-clock true b c d = refl
   frame-clock false true c d = refl
   frame-clock false false true d = refl
   frame-clock false false false true = refl
-  frame-clock false false false false = refl
+  frame-clock false false false false = either-rule (λ s. s .clock ≡ now) (countedAt (l .state) now) f refl refl
 
   frame-same : (a b c d : Bool) → heardMoves (tested a b c d) ≡ false → heardBy (tested a b c d) .lone ≡ l
   unfolding stateAfter readingsAfter among

@@ -90,6 +90,7 @@ each (command.GetParameter id timeout) = (tt, refl, λ h. refl, (tt, tt, tt, win
 each (command.GetParameterWithHostId id h timeout) = (tt, tt, λ h. refl, (tt, tt, tt, window-small timeout 0 (omega arith)))
 each (command.GetParameterF32 id timeout) = (tt, refl, λ h. refl, (tt, tt, tt, window-small timeout 150 (omega arith)))
 each (command.GetParameterI8 id timeout) = (tt, refl, λ h. refl, (tt, tt, tt, window-small timeout 150 (omega arith)))
+each command.GetVersion = (refl, refl, λ h. refl, (tt, tt, tt, omega arith))
 
 -- ---- what a call gives
 

@@ -28,7 +28,7 @@ use Rattle.motor.specs.Limits.{mostReadings}
 use Rattle.motor.specs.Readings.{freeRecord, reading, entryAt, storedAt, withNext, kept, fullOf, addAt, putAt, putOf, holderOf, isRecord, siteOf}
 use Rattle.motor.specs.Receive.{partsOf, acceptsFrame, isOutOfTime, countedAt, isRead, statusIn, readStatus, readId, readStored, frameSaid, stateAfter, readingsAfter, heardWith, processFeedbackFrame, frameAdmitted}
 use Rattle.motor.specs.Edits.{editedBy, noEdit, addEdit, putEditAt, putEdit, readKept, isReply, hearRead}
-use Rattle.motor.proofs.Receiving.{read-tells, admittedTo, admitted-13, admitted-7, admitted, admitted-where}
+use Rattle.motor.proofs.Receiving.{read-taken, admittedTo, admitted-13, admitted-7, admitted, admitted-where}
 use Rattle.motor.proofs.Sites.{site-before, site-next, site-free, site-after, site-head, holder-same, holder-there}
 
 -- a record stored goes on to where it goes
@@ -111,7 +111,7 @@ read-by m f now t = go (acceptsFrame (m .state .«motor_id») f) (isOutOfTime (m
     go false l z k p q s e = subst by (sym (admitted-13 (m .state) f now p)) (rw (t, p))
     go true true z k p q s e = subst by (sym (admitted-7 (m .state) f now p q)) (rw (t, p, q))
     go true false false k p q s e = subst by (sym (admitted (m .state) f now p q)) (rw (t, p, q, s))
-    go true false true Kept p q s e = subst by (sym (admitted (m .state) f now p q)) (rw (t, p, q, s, e, t, read-tells (countedAt (m .state) now) f t))
+    go true false true Kept p q s e = subst by (sym (admitted (m .state) f now p q)) (rw (t, p, q, s, e, t, read-taken (countedAt (m .state) now) f t))
     go true false true Full p q s e = subst by (sym (admitted (m .state) f now p q)) (rw (t, p, q, s, e))
 
 module _ (m : Motor) (f : CanFrame) (now : ℕ) where

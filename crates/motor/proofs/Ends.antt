@@ -101,6 +101,7 @@ module _ (s : Sight) (now : ℕ) where
     look-ends f (wait.Ping k) =
         either-ends (s .«ping_reply» .held) _ _ (enter-ends s now (gotPing k) (pinged-good k))
         (either-ends (ltb now (op .due)) _ _ tt (retry-ends (wait.Ping k)))
+    look-ends f wait.Version = either-ends (op .answer .held) _ _ refl (either-ends (ltb now (op .due)) _ _ tt (retry-ends wait.Version))
 
     pub advance-ends : (f : Found) (p : Phase) → isIdle p ≡ false → Ends (advanced s now op f p)
     advance-ends f phase.Idle h =

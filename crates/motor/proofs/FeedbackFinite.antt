@@ -28,9 +28,10 @@ use Rattle.motor.specs.declared.feedback.Latest.{Latest}
 use Rattle.motor.specs.declared.feedback.Latest.the-variants as latest
 use Rattle.motor.specs.declared.motor.State.{State}
 use Rattle.motor.specs.declared.motor.Motor.{Motor}
-use Rattle.motor.specs.Receive.{partsOf, frameType, countedAt, feedbackIn, update, feedbackAfter, toldBy, stateAfter, processFeedbackFrame}
+use Rattle.motor.specs.Receive.{partsOf, frameType, countedAt, feedbackIn, update, feedbackAfter, toldBy, answerTaken, stateAfter, processFeedbackFrame}
 use Rattle.codec.proofs.Rounded.{U, rounded, rounded-mono, rounded-value}
 use Rattle.codec.proofs.Steps.{quotient}
+use Rattle.motor.proofs.Receiving.{either-rule}
 
 -- |x| is at most b
 abbrev pub Within : Float → ℕ → Type 0
@@ -182,8 +183,8 @@ FiniteIn (latest.State s) = Finite s
 -- feedback that is finite stays so, whatever the frame and its answer
 module _ (f : CanFrame) (now : ℕ) (h : Bytes (f .data)) where
   state-finite : (said : Checked) (s : State) → FiniteIn (s .feedback .latest) → FiniteIn (stateAfter said s f now .feedback .latest)
-  unfolding stateAfter toldBy countedAt feedbackAfter
-  state-finite Passed s k = go (eqb (frameType f) 2 || eqb (frameType f) 24)
+  unfolding stateAfter answerTaken toldBy countedAt feedbackAfter
+  state-finite Passed s k = either-rule (λ t. FiniteIn (t .feedback .latest)) (countedAt s now) f k (go (eqb (frameType f) 2 || eqb (frameType f) 24))
     where
       go : (b : Bool) → FiniteIn (cond b (update (s .feedback) (feedbackIn (s .model) (partsOf f) f)) (s .feedback) .latest)
       go true = told-finite (s .model) f h

@@ -103,6 +103,7 @@ module _ (f d : ℕ) where
   gone-fits (wait.Acknowledged by r k) = lost-fits k
   gone-fits (wait.Value id k) = lost-got-fits k
   gone-fits (wait.Ping k) = (omega arith, tt)
+  gone-fits wait.Version = (omega arith, tt)
 
   -- ---- after a value or a ping reply
 

@@ -61,6 +61,7 @@ isWrite (request.Write id raw) = true
 isWrite request.SaveParameters = false
 isWrite (request.ActiveReport on) = false
 isWrite (request.SetProtocol protocol) = false
+isWrite request.Version = false
 
 -- a node whose refusal, if it has one, is among them, whose write the encoder takes, and whose other requests are no writes
 abbrev pub Good : Node → Type 0
@@ -208,3 +209,4 @@ unfolding among
 gone-good (wait.Acknowledged by r k) = lost-good k
 gone-good (wait.Value id k) = lost-got-good k
 gone-good (wait.Ping k) = refl
+gone-good wait.Version = refl

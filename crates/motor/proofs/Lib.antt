@@ -33,5 +33,6 @@ pub mod Ends
 pub mod Stays
 pub mod Clock
 pub mod Writes
+pub mod Versions
 pub mod Looks
 pub mod Echo

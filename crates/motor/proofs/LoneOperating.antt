@@ -39,6 +39,7 @@ module _ (m : Motor) (l : List Entry) (x : Holds (m .readings) l) where
   wanted-by (wait.Acknowledged by r k) = refl
   wanted-by (wait.Value id k) = sym (find-holds (m .readings) l x id)
   wanted-by (wait.Ping k) = refl
+  wanted-by wait.Version = refl
 
   wanted-as : (p : Phase) → wanted p (λ id. lookup id l) ≡ wanted p (λ id. findOf (m .readings) id)
   wanted-as phase.Idle = refl

@@ -106,11 +106,13 @@ module _ (f d : ℕ) where
   waitLeft (wait.Acknowledged by r k) = ackedLeft k
   waitLeft (wait.Value id k) = gotLeft k
   waitLeft (wait.Ping k) = pingedLeft k
+  waitLeft wait.Version = 0
 
   -- further attempts, from this place on
   abbrev pub moreLeft : Hosts → ℕ → ℕ
   moreLeft hosts.Candidates next = many (f + d) (4 - next)
   moreLeft (hosts.Named h) next = 0
+  moreLeft hosts.Own next = 0
 
   abbrev pub nodeLeft : Node → ℕ
   nodeLeft (node.Finish r) = 0

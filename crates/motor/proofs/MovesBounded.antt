@@ -61,6 +61,7 @@ next-less f d own hosts.Candidates i =
     omega (arith, ap (many (f + d)) one))
     (λ e. tt)
 next-less f d own (hosts.Named h) i = tt
+next-less f d own hosts.Own i = tt
 
 -- ---- moves
 
@@ -182,6 +183,10 @@ module _ (f d most now : ℕ) (far : longestTimeout ≤ most) where
         by-test (λ t v. Moved (budget (phase.Waiting (wait.Ping k)) (ltb now (op .due))) v) (s .«ping_reply» .held)
         (λ e. enter-moves _ _ s (gotPing k) (pinged-fits f d k) (omega arith))
         (λ e. timed-moves (wait.Ping k) _ (λ early. still-moves _ early (omega arith)))
+    look-moves wait.Version x h =
+        by-test (λ t v. Moved (budget (phase.Waiting wait.Version) (ltb now (op .due))) v) (op .answer .held)
+        (λ e. ended _ _ _ _ _ (omega arith) tt)
+        (λ e. timed-moves wait.Version _ (λ early. still-moves _ early (omega arith)))
 
     -- any step
     pub advance-moves : (p : Phase) (r : Found) → opLeft f d op ≤ phaseLeft f d p op → Moved (budget p (ltb now (op .due))) (advanced s now op r p)

@@ -84,6 +84,7 @@ module _ (s : Sight) (now : ℕ) where
     look-pauses (wait.Value id k) (found.Held r) = enter-pauses (gotValue s k (r .value))
     look-pauses (wait.Value id k) found.Nothing = timed-pauses (wait.Value id k) _
     look-pauses (wait.Ping k) x = either-pauses (s .«ping_reply» .held) _ _ (enter-pauses (gotPing k)) (timed-pauses (wait.Ping k) _)
+    look-pauses wait.Version x = either-pauses (op .answer .held) _ _ refl (timed-pauses wait.Version _)
 
     pub late-pauses : (p : Phase) (r : Found) → Pauses (advanced s now op r p)
     late-pauses phase.Idle r = refl

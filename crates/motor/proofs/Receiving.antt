@@ -9,6 +9,7 @@ use Rattle.codec.specs.declared.error.Checked.{Checked}
 use Rattle.codec.specs.declared.error.Checked.the-variants.{Passed, Refused}
 use Rattle.codec.specs.declared.protocol.IdParts.{IdParts}
 use Rattle.codec.specs.Kinds.{among}
+use Rattle.motor.specs.declared.engine.operation.Phase.{Phase}
 use Rattle.motor.specs.declared.motor.State.{State}
 use Rattle.motor.specs.declared.motor.Motor.{Motor}
 use Rattle.motor.specs.declared.quiet.StateHeard.{StateHeard}
@@ -16,12 +17,28 @@ use Rattle.motor.specs.declared.readings.Readings.{Readings}
 use Rattle.motor.specs.declared.readings.PutResult.{PutResult}
 use Rattle.motor.specs.declared.readings.PutAnswer.the-variants.{Kept, Full}
 use Rattle.motor.specs.Readings.{putOf}
-use Rattle.motor.specs.Receive.{partsOf, frameType, acceptsFrame, isOutOfTime, countedAt, feedbackAfter, faultAfter, pingAfter, toldBy, isRead, readStatus, readId, readStored, frameSaid, stateAfter, readingsAfter, heardWith, processFeedbackFrame, frameAdmitted, isQuiet, stateHeard, hearState}
+use Rattle.motor.specs.Receive.{partsOf, frameType, acceptsFrame, isOutOfTime, countedAt, feedbackAfter, faultAfter, pingAfter, toldBy, isAnswer, answerTaken, takenBy, isRead, readStatus, readId, readStored, frameSaid, stateAfter, readingsAfter, heardWith, processFeedbackFrame, frameAdmitted, isQuiet, stateHeard, hearState}
 
 -- a read reply tells nothing but its value
-pub read-tells : (s : State) (f : CanFrame) → isRead f ≡ true → toldBy s (partsOf f) f ≡ s
+read-tells : (s : State) (f : CanFrame) → isRead f ≡ true → toldBy s (partsOf f) f ≡ s
 unfolding toldBy isRead feedbackAfter faultAfter pingAfter
 read-tells s f h = rw (eqb-true (frameType f) 17 h)
+
+-- what holds after an answer and after the old rule holds after any frame that passes
+pub either-rule : (P : State → Type 0) (s : State) (f : CanFrame) → P (answerTaken s f) → P (toldBy s (partsOf f) f) → P (takenBy s (partsOf f) f)
+either-rule P s f a t = go (isAnswer (s .operation .phase) f)
+  where
+    go : (b : Bool) → P (cond b (answerTaken s f) (toldBy s (partsOf f) f))
+    go true = a
+    go false = t
+
+-- a read reply is no answer to get_version
+no-answer : (p : Phase) (f : CanFrame) → isRead f ≡ true → isAnswer p f ≡ false
+unfolding isRead
+no-answer p f h = rw (eqb-true (frameType f) 17 h)
+
+pub read-taken : (s : State) (f : CanFrame) → isRead f ≡ true → takenBy s (partsOf f) f ≡ s
+read-taken s f h = rw (no-answer (s .operation .phase) f h) (read-tells s f h)
 
 module _ (m : Motor) (f : CanFrame) (now : ℕ) where
   pub heard-13 : acceptsFrame (m .state .«motor_id») f ≡ false → processFeedbackFrame m f now ≡ heardWith (m .state) (m .readings) (Refused FrameNotAccepted)
@@ -34,7 +51,7 @@ module _ (m : Motor) (f : CanFrame) (now : ℕ) where
     heard-7 l = rw (a, l)
 
     module _ (l : isOutOfTime (m .state .clock) now ≡ false) where
-      pub heard-other : isRead f ≡ false → processFeedbackFrame m f now ≡ heardWith (toldBy (countedAt (m .state) now) (partsOf f) f) (m .readings) Passed
+      pub heard-other : isRead f ≡ false → processFeedbackFrame m f now ≡ heardWith (takenBy (countedAt (m .state) now) (partsOf f) f) (m .readings) Passed
       unfolding processFeedbackFrame frameSaid stateAfter readingsAfter
       heard-other r = rw (a, l, r, r)
 
@@ -51,7 +68,7 @@ module _ (m : Motor) (f : CanFrame) (now : ℕ) where
 
           pub heard-value : p .said ≡ Kept → processFeedbackFrame m f now ≡ heardWith (countedAt (m .state) now) (p .readings) Passed
           unfolding processFeedbackFrame frameSaid stateAfter readingsAfter
-          heard-value k = rw (a, l, r, eq-eqb (readStatus f) 0 s, ← e, k, r, read-tells (countedAt (m .state) now) f r)
+          heard-value k = rw (a, l, r, eq-eqb (readStatus f) 0 s, ← e, k, r, read-taken (countedAt (m .state) now) f r)
 
 -- ---- 13 and 7 of a frame whose id is split
 
@@ -89,7 +106,7 @@ unfolding hearState
 state-untaken s f now r = rw r
 
 abbrev pub hearStateBy : Checked → State → IdParts → CanFrame → ℕ → StateHeard
-hearStateBy Passed s p f now = stateHeard (toldBy (countedAt s now) p f) Passed
+hearStateBy Passed s p f now = stateHeard (takenBy (countedAt s now) p f) Passed
 hearStateBy (Refused r) s p f now = stateHeard s (Refused r)
 
 -- a frame that is no read reply, by its admission

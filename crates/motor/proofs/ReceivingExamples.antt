@@ -1,4 +1,5 @@
--- Examples of receiving, which antt computes, for a motor 1 of model rs-00 at clock 100 with any operation and readings. Assumes nothing.
+-- Examples of receiving, which antt computes, for a motor 1 of model rs-00 at clock 100 with any operation and readings; a version reply
+-- while get_version waits and while it doesn't. Assumes nothing.
 use Prim.Native.Nat.{ℕ, _-_, _^_}
 use mathlib.Core.Path.{_≡_, refl}
 use mathlib.Core.Bool.{true, false}
@@ -14,7 +15,7 @@ use Rattle.motor.specs.declared.feedback.Latest.the-variants as latest
 use Rattle.motor.specs.declared.motor.HeldFault.the-variants as fault
 use Rattle.motor.specs.declared.motor.Motor.{Motor}
 use Rattle.motor.specs.declared.readings.Readings.{Readings}
-use Rattle.motor.specs.Receive.{partsOf, acceptsFrame, isOutOfTime, countedAt, pingAfter, feedbackIn, nextSequence, feedbackAfter, faultAfter, toldBy, isRead, frameSaid, stateAfter, readingsAfter, processFeedbackFrame}
+use Rattle.motor.specs.Receive.{partsOf, acceptsFrame, isOutOfTime, countedAt, pingAfter, feedbackIn, nextSequence, feedbackAfter, faultAfter, toldBy, awaitsVersion, versionIn, withAnswer, answerTaken, isRead, frameSaid, stateAfter, readingsAfter, processFeedbackFrame}
 
 abbrev frame : ℕ → List ℕ → CanFrame
 frame id payload = record { «arbitration_id» = id; «data» = payload; dlc = 8; «is_extended» = true; «is_rx» = true }
@@ -55,11 +56,21 @@ module _ (operation : Operation) (command : Command) (readings : Readings) where
   unfolding processFeedbackFrame frameSaid stateAfter acceptsFrame isOutOfTime among countedAt toldBy feedbackAfter nextSequence isRead
   sequence-stays = refl
 
-  -- a version reply is feedback like any other
+  -- outside get_version's wait a version reply is feedback like any other
   abbrev version : CanFrame
   version = frame 0x020001FD (0x00 ∷ 0xC4 ∷ 0x56 ∷ 1 ∷ 2 ∷ 3 ∷ 4 ∷ 0 ∷ [])
 
-  pub version-is-feedback : (isVersionReply 0x020001FD (version .data) ≡ true)
+  pub version-is-feedback : awaitsVersion (operation .phase) ≡ false
+      → (isVersionReply 0x020001FD (version .data) ≡ true)
       × (processFeedbackFrame (motor 7 3) version 100 .motor .state .feedback ≡ record { latest = latest.State (feedbackIn Rs00 (partsOf version) version); sequence = 4 })
   unfolding processFeedbackFrame frameSaid stateAfter acceptsFrame isOutOfTime among countedAt toldBy feedbackAfter nextSequence isRead
-  version-is-feedback = (refl, refl)
+  version-is-feedback h = (refl, rw h)
+
+  -- within it, it is the answer and no feedback, and is counted
+  pub version-is-answer : awaitsVersion (operation .phase) ≡ true
+      → (processFeedbackFrame (motor 7 3) version 100 .motor .state .feedback ≡ motor 7 3 .state .feedback)
+      × (processFeedbackFrame (motor 7 3) version 100 .motor .state .responses ≡ 8)
+      × (processFeedbackFrame (motor 7 3) version 100 .motor .state .operation
+      ≡ withAnswer operation (record { held = true; reply = record { «device_id» = 1; version = 1 ∷ 2 ∷ 3 ∷ 4 ∷ [] } }))
+  unfolding processFeedbackFrame frameSaid stateAfter acceptsFrame isOutOfTime among countedAt answerTaken versionIn isRead
+  version-is-answer h = (rw h, rw h, rw h)

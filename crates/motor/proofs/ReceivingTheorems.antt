@@ -1,4 +1,4 @@
--- What holds of every frame: it keeps the operation, dlc and is_rx don't matter, each accepted one is counted, and a value put has the table's kind.
+-- What holds of every frame: it keeps the operation but for get_version's answer, dlc and is_rx don't matter, each accepted one is counted, and a value put has the table's kind.
 -- Assumes nothing.
 use Prim.Native.Nat.{ℕ, _+_, _%_, _^_}
 use mathlib.Core.Path.{_≡_, refl}
@@ -20,18 +20,19 @@ use Rattle.motor.specs.declared.motor.Motor.{Motor}
 use Rattle.motor.specs.declared.readings.Entry.{Entry}
 use Rattle.motor.specs.declared.readings.Readings.{Readings}
 use Rattle.motor.specs.Readings.{entry, insert, room, putOf}
-use Rattle.motor.specs.Receive.{acceptsFrame, isOutOfTime, countedAt, pingAfter, feedbackIn, feedbackAfter, faultAfter, toldBy, isRead, readStatus, readId, readStored, frameSaid, stateAfter, readingsAfter, isFull, processFeedbackFrame}
+use Rattle.motor.specs.Receive.{acceptsFrame, isOutOfTime, countedAt, pingAfter, feedbackIn, feedbackAfter, faultAfter, toldBy, versionIn, withAnswer, answerTaken, isRead, readStatus, readId, readStored, frameSaid, stateAfter, readingsAfter, isFull, processFeedbackFrame}
 use Rattle.motor.specs.Echo.{heldKind}
 use Rattle.motor.specs.Lone.{Lone, hears}
+use Rattle.motor.proofs.Receiving.{either-rule}
 
--- ---- the operation and its command are as they were
+-- ---- the operation, but for get_version's answer, and its command are as they were
 
 abbrev pub SameOperation : State → State → Type 0
-SameOperation s t = (t .operation ≡ s .operation) × (t .command ≡ s .command)
+SameOperation s t = (t .operation ≡ withAnswer (s .operation) (t .operation .answer)) × (t .command ≡ s .command)
 
 state-keeps : (said : Checked) (s : State) (f : CanFrame) (now : ℕ) → SameOperation s (stateAfter said s f now)
-unfolding stateAfter toldBy countedAt
-state-keeps Passed s f now = (refl, refl)
+unfolding stateAfter answerTaken toldBy countedAt
+state-keeps Passed s f now = either-rule (SameOperation s) (countedAt s now) f (refl, refl) (refl, refl)
 state-keeps (Refused r) s f now = go (among (numberOf r) (14 ∷ 15 ∷ []))
   where
     go : (b : Bool) → SameOperation s (cond b (countedAt s now) s)
@@ -53,7 +54,7 @@ withDlc f dlc rx = record { «arbitration_id» = f .«arbitration_id»; «data»
 
 module _ (f : CanFrame) (dlc : ℕ) (rx : Bool) where
   state-ignores : (said : Checked) (s : State) (now : ℕ) → stateAfter said s (withDlc f dlc rx) now ≡ stateAfter said s f now
-  unfolding stateAfter toldBy pingAfter feedbackAfter feedbackIn faultAfter
+  unfolding stateAfter answerTaken versionIn toldBy pingAfter feedbackAfter feedbackIn faultAfter
   state-ignores Passed s now = refl
   state-ignores (Refused r) s now = refl
 
@@ -73,16 +74,19 @@ module _ (f : CanFrame) (dlc : ℕ) (rx : Bool) where
 
 module _ (s : State) (f : CanFrame) (now : ℕ) (full : Bool) (a : acceptsFrame (s .«motor_id») f ≡ true) (l : isOutOfTime (s .clock) now ≡ false) where
   state-counts : (stateAfter (frameSaid s f now full) s f now .clock ≡ now) × (stateAfter (frameSaid s f now full) s f now .responses ≡ (s .responses + 1) % 2 ^ 64)
-  unfolding frameSaid stateAfter toldBy countedAt among
+  unfolding frameSaid stateAfter answerTaken toldBy countedAt among
   state-counts = rw (a, l) (go (isRead f && not (eqb (readStatus f) 0)) (isRead f && full))
     where
       after : Bool → Bool → State
       after x y = stateAfter (cond x (Refused (ReadFailed (readId f) (readStatus f))) (cond y (Refused ReadingsFull) Passed)) s f now
 
-      go : (x y : Bool) → (after x y .clock ≡ now) × (after x y .responses ≡ (s .responses + 1) % 2 ^ 64)
+      Counted : State → Type 0
+      Counted t = (t .clock ≡ now) × (t .responses ≡ (s .responses + 1) % 2 ^ 64)
+
+      go : (x y : Bool) → Counted (after x y)
       go true y = (refl, refl)
       go false true = (refl, refl)
-      go false false = (refl, refl)
+      go false false = either-rule Counted (countedAt s now) f (refl, refl) (refl, refl)
 
 pub frame-counts : (m : Motor) (f : CanFrame) (now : ℕ) → acceptsFrame (m .state .«motor_id») f ≡ true → isOutOfTime (m .state .clock) now ≡ false
     → (processFeedbackFrame m f now .motor .state .clock ≡ now) × (processFeedbackFrame m f now .motor .state .responses ≡ (m .state .responses + 1) % 2 ^ 64)

@@ -57,6 +57,7 @@ no-write (request.Write id raw) e = absurd (true≢false e)
 no-write request.SaveParameters e = tt
 no-write (request.ActiveReport on) e = tt
 no-write (request.SetProtocol protocol) e = tt
+no-write request.Version e = tt
 
 -- what a wait asks, and asks again
 abbrev pub AsksIn : Phase → Type 0
@@ -121,6 +122,8 @@ module _ (s : Sight) (now : ℕ) where
     look-sends f (wait.Ping k) a =
         either-sends s (s .«ping_reply» .held) _ _ (enter-sends (gotPing k) (pinged-good k))
         (either-sends s (ltb now (op .due)) _ _ still-sends (retry-sends (wait.Ping k) a))
+    look-sends f wait.Version a =
+        either-sends s (op .answer .held) _ _ (nothing refl, tt) (either-sends s (ltb now (op .due)) _ _ still-sends (retry-sends wait.Version a))
 
     advance-sends : (f : Found) (p : Phase) → AsksIn p → Sends s (advanced s now op f p)
     advance-sends f phase.Idle a = (nothing refl, tt)

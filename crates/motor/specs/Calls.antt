@@ -227,6 +227,7 @@ abbrev pub wantedBy : Wait → (ℕ → Found) → Found
 wantedBy (wait.Acknowledged by r k) find = found.Nothing
 wantedBy (wait.Value id k) find = find id
 wantedBy (wait.Ping k) find = found.Nothing
+wantedBy wait.Version find = found.Nothing
 
 abbrev pub wanted : Phase → (ℕ → Found) → Found
 wanted phase.Idle find = found.Nothing

@@ -48,3 +48,4 @@ commandRow (command.GetParameter id timeout) = row timeout noArgument 4
 commandRow (command.GetParameterWithHostId id h timeout) = row timeout (namedHost h) 1
 commandRow (command.GetParameterF32 id timeout) = row timeout noArgument 4
 commandRow (command.GetParameterI8 id timeout) = row timeout noArgument 4
+commandRow command.GetVersion = row 0 noArgument 1

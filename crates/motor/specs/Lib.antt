@@ -11,9 +11,11 @@ pub mod Lone
 pub mod Motors
 pub mod Bounds
 pub mod Writes
+pub mod Versions
 pub mod Runs
 pub mod RunsOfWaits
 pub mod RunsOfStops
 pub mod RunsOfWrites
 pub mod RunsOfModes
 pub mod RunsOfRefusals
+pub mod RunsOfVersion

@@ -22,8 +22,8 @@ use Rattle.motor.specs.Receive.{frameSaid, stateAfter, readingsAfter, re
 use Rattle.motor.specs.engine.Requests.{noFrame}
 use Rattle.motor.specs.engine.Run.{advanced, begunBy}
 
--- clock, response count, feedback with its sequence, gains, fault report, ping reply and running operation; a list of readings in
--- rising id
+-- clock, response count, feedback with its sequence, gains, fault report, ping reply and running operation, which has get_version's
+-- answer; a list of readings in rising id
 pub record Lone : Type 0 where
   pub state : State
   pub readings : List Entry

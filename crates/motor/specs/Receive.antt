@@ -18,9 +18,15 @@ use Rattle.codec.specs.Kinds.{among}
 use Rattle.codec.specs.Models.{limitsOf}
 use Rattle.codec.specs.Status.{decodeStatusFrame}
 use Rattle.codec.specs.Faults.{decodeFaultReport}
-use Rattle.codec.specs.Replies.{pingReply}
+use Rattle.codec.specs.Replies.{pingReply, isVersionReply, decodeVersionReply}
 use Rattle.codec.specs.Values.{decodeReadParameterValue}
+use Rattle.motor.specs.declared.engine.node.Wait.{Wait}
+use Rattle.motor.specs.declared.engine.node.Wait.the-variants as wait
 use Rattle.motor.specs.declared.engine.operation.HeldPing.{HeldPing}
+use Rattle.motor.specs.declared.engine.operation.HeldVersion.{HeldVersion}
+use Rattle.motor.specs.declared.engine.operation.Operation.{Operation}
+use Rattle.motor.specs.declared.engine.operation.Phase.{Phase}
+use Rattle.motor.specs.declared.engine.operation.Phase.the-variants as phase
 use Rattle.motor.specs.declared.feedback.MotorFeedbackState.{MotorFeedbackState}
 use Rattle.motor.specs.declared.feedback.FeedbackCache.{FeedbackCache}
 use Rattle.motor.specs.declared.feedback.Latest.the-variants as latest
@@ -63,8 +69,8 @@ isOutOfTime clock now = ltb now clock || ltb latestTime now
 
 -- ---- what frames change of the state: the rest of it stays
 
-abbrev pub stateWith : State → ℕ → ℕ → FeedbackCache → HeldFault → HeldPing → State
-stateWith s clock responses feedback fault ping =
+abbrev pub stateWith : State → ℕ → ℕ → FeedbackCache → HeldFault → HeldPing → Operation → State
+stateWith s clock responses feedback fault ping operation =
     record {
       «motor_id» = s .«motor_id»;
       «feedback_id» = s .«feedback_id»;
@@ -76,13 +82,13 @@ stateWith s clock responses feedback fault ping =
       gains = s .gains;
       «fault_report» = fault;
       «ping_reply» = ping;
-      operation = s .operation;
+      operation = operation;
       command = s .command;
     }
 
 -- the clock takes the frame's time; response count +1 (wraps in 64 bits)
 unfoldable pub countedAt : State → ℕ → State
-countedAt s now = stateWith s now ((s .responses + 1) % 2 ^ 64) (s .feedback) (s .«fault_report») (s .«ping_reply»)
+countedAt s now = stateWith s now ((s .responses + 1) % 2 ^ 64) (s .feedback) (s .«fault_report») (s .«ping_reply») (s .operation)
 
 -- 0: hold the ping reply
 unfoldable pub pingAfter : HeldPing → IdParts → List ℕ → HeldPing
@@ -128,7 +134,51 @@ faultAfter old p payload = cond (eqb (p .«comm_type») 21) (fault.Report (decod
 -- what types 0, 2, 24 and 21 tell; 25 and 17 nothing here
 unfoldable pub toldBy : State → IdParts → CanFrame → State
 toldBy s p f =
-    stateWith s (s .clock) (s .responses) (feedbackAfter (s .feedback) (s .model) p f) (faultAfter (s .«fault_report») p (f .data)) (pingAfter (s .«ping_reply») p (f .data))
+    stateWith s (s .clock) (s .responses) (feedbackAfter (s .feedback) (s .model) p f) (faultAfter (s .«fault_report») p (f .data)) (pingAfter (s .«ping_reply») p (f .data)) (s .operation)
+
+-- ---- while get_version waits (document 02, T-01)
+
+abbrev pub isVersionWait : Wait → Bool
+isVersionWait (wait.Acknowledged by r k) = false
+isVersionWait (wait.Value id k) = false
+isVersionWait (wait.Ping k) = false
+isVersionWait wait.Version = true
+
+-- from its start until a step ends it
+abbrev pub awaitsVersion : Phase → Bool
+awaitsVersion phase.Idle = false
+awaitsVersion (phase.Pausing k) = false
+awaitsVersion (phase.Waiting w) = isVersionWait w
+
+-- an accepted frame for which is_version_reply holds becomes its answer
+abbrev pub isAnswer : Phase → CanFrame → Bool
+isAnswer p f = isVersionReply (f .«arbitration_id») (f .data) && awaitsVersion p
+
+-- that frame's version as the codec decodes it
+unfoldable pub versionIn : CanFrame → HeldVersion
+versionIn f = record { held = true; reply = decodeVersionReply (f .«arbitration_id») (f .data) .reply }
+
+-- in place of an earlier one
+abbrev pub withAnswer : Operation → HeldVersion → Operation
+withAnswer op answer =
+    record {
+      phase = op .phase;
+      due = op .due;
+      window = op .window;
+      hosts = op .hosts;
+      host = op .host;
+      candidate = op .candidate;
+      mark = op .mark;
+      answer = answer;
+    }
+
+-- no feedback: nothing but the answer changes
+unfoldable pub answerTaken : State → CanFrame → State
+answerTaken s f = stateWith s (s .clock) (s .responses) (s .feedback) (s .«fault_report») (s .«ping_reply») (withAnswer (s .operation) (versionIn f))
+
+-- other frames go by the old rule, and outside that wait so do version replies
+abbrev pub takenBy : State → IdParts → CanFrame → State
+takenBy s p f = cond (isAnswer (s .operation .phase) f) (answerTaken s f) (toldBy s p f)
 
 -- ---- 17: status is the extra field's high byte; zero holds the value
 
@@ -169,7 +219,7 @@ frameSaid s f now full = firstOf (frameNumbers s f now full)
 
 -- refused other than by 14 or 15, nothing changes; 14 and 15 raise the count and leave what is held
 unfoldable pub stateAfter : Checked → State → CanFrame → ℕ → State
-stateAfter Passed s f now = toldBy (countedAt s now) (partsOf f) f
+stateAfter Passed s f now = takenBy (countedAt s now) (partsOf f) f
 stateAfter (Refused r) s f now = cond (among (numberOf r) (14 ∷ 15 ∷ [])) (countedAt s now) s
 
 -- the new readings where a value was put

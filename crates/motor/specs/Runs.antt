@@ -1,5 +1,5 @@
 -- Whole runs of the lone motor, as examples: inputs with their times, and what is to be answered. Definitions only; the examples
--- stand in RunsOf files, as tables that antt computes. Their frames and times were worked out from motor.rs.
+-- stand in RunsOf files, as tables that antt computes. Their frames and times were worked out from motor.rs, or from document 02.
 use Prim.Native.Nat.{ℕ}
 use mathlib.Core.Path.{_≡_}
 use mathlib.Core.Bool.{true, false}
@@ -17,6 +17,7 @@ use Rattle.motor.specs.declared.engine.command.Outcome.{Outcome}
 use Rattle.motor.specs.declared.engine.command.Said.{Said}
 use Rattle.motor.specs.declared.engine.command.Said.the-variants as said
 use Rattle.motor.specs.declared.engine.operation.Gains.{Gains}
+use Rattle.motor.specs.declared.engine.operation.HeldVersion.{HeldVersion}
 use Rattle.motor.specs.declared.motor.HeldFault.{HeldFault}
 use Rattle.motor.specs.declared.readings.Entry.{Entry}
 use Rattle.motor.specs.Lone.{Lone, LoneAnswered, loneNew, loneStart, loneStep, hears}
@@ -119,6 +120,7 @@ pub data Row : Type 0 where
   fault : HeldFault → HeldFault → Row
   readings : List Entry → List Entry → Row
   removal : Checked → Checked → Row
+  version : HeldVersion → HeldVersion → Row
 
 -- the row with what is really so
 abbrev pub actual : Row → Row
@@ -128,6 +130,7 @@ actual (gains a b) = gains a a
 actual (fault a b) = fault a a
 actual (readings a b) = readings a a
 actual (removal a b) = removal a a
+actual (version a b) = version a a
 
 abbrev pub RowsHold : List Row → Type 0
 RowsHold rows = map actual rows ≡ rows

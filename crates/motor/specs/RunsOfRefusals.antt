@@ -20,6 +20,7 @@ use Rattle.motor.specs.Lone.{Lone, hears, loneRemoval}
 use Rattle.motor.specs.Readings as chain
 use Rattle.motor.specs.Receive.{acceptsFrame, isOutOfTime, countedAt, pingAfter, nextSequence, feedbackAfter, faultAfter, toldBy, isRead, readStatus, readId, readStored, frameSaid, stateAfter, readingsAfter, stateWith}
 use Rattle.motor.specs.Runs.{bytes, held, start, step, frame, fresh, status, reply, heard, sent, waiting, finished, finishedWith, refused, passed, runs, afterInputs, Row, run, number, readings, removal, RowsHold}
+use Rattle.motor.specs.engine.Run.{noOperation}
 
 -- ---- start, step and removal
 
@@ -97,7 +98,7 @@ filled = record { state = newState 1 0xFD Rs00 0 100; readings = map (λ n. held
 abbrev pub counted-out : Lone
 counted-out =
     record {
-      state = stateWith (newState 1 0xFD Rs00 0 100) 100 (2 ^ 64 - 1) (record { latest = latest.Nothing; sequence = 2 ^ 64 - 1 }) held-fault.Nothing noPing;
+      state = stateWith (newState 1 0xFD Rs00 0 100) 100 (2 ^ 64 - 1) (record { latest = latest.Nothing; sequence = 2 ^ 64 - 1 }) held-fault.Nothing noPing noOperation;
       readings = [];
     }
 
@@ -118,7 +119,7 @@ frames =
     (held 0x7005 (value.I8 (pos 2)) ∷ [])
     ∷ number (afterInputs filled (frame 0x110101FD (bytes 5 0x70 0 0 2 0 0 0) 110 ∷ reply (bytes 5 0x70 0 0 2 0 0 0) 120 ∷ []) .state .responses) 2
     ∷ number (afterInputs filled (reply (bytes 5 0x70 0 0 2 0 0 0) 120 ∷ []) .state .clock) 120
-    -- a type 2 payload beginning 00 C4 56 is feedback like any other
+    -- a type 2 payload beginning 00 C4 56 is feedback like any other (but in get_version's wait, specs/RunsOfVersion)
     ∷ number (afterInputs (fresh 0xFD Rs00 0) (frame 0x020001FD (bytes 0 0xC4 0x56 1 2 3 4 0) 110 ∷ []) .state .feedback .sequence) 1
     -- the count wraps, so that it isn't greater than at the send; the sequence stays
     ∷ number (afterInputs counted-out (frame 0x190001FD zeros 110 ∷ []) .state .responses) 0

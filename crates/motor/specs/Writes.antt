@@ -30,6 +30,7 @@ AsEncoded (request.Write id raw) = (v : ParameterValue) × (encodeParameterValue
 AsEncoded request.SaveParameters = Unit {0}
 AsEncoded (request.ActiveReport on) = Unit {0}
 AsEncoded (request.SetProtocol protocol) = Unit {0}
+AsEncoded request.Version = Unit {0}
 
 -- what a frame is: none, a request to a host, a motion command, or that of another id
 pub data Sent (s : Sight) (f : CanFrame) : Type 0 where

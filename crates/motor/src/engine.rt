@@ -14,3 +14,4 @@ pub mod requests;
 pub mod run;
 pub mod script;
 mod stop;
+mod version;

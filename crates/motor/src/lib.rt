@@ -12,3 +12,4 @@ pub mod readings;
 pub mod receive;
 pub mod registration;
 pub mod thin;
+mod version;

@@ -233,6 +233,7 @@ fn wanted_in(readings: Readings, wait: Wait) -> Found
         Wait::Acknowledged(_, _, _) => Found::Nothing,
         Wait::Value(id, _) => find(readings, id),
         Wait::Ping(_) => Found::Nothing,
+        Wait::Version => Found::Nothing,
     }
 }
 

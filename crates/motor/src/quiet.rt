@@ -3,7 +3,7 @@ use crate::motor::State;
 use crate::receive::counted_at;
 use crate::receive::frame_admitted;
 use crate::receive::is_read;
-use crate::receive::told_by;
+use crate::version::taken_by;
 use codec::bus::CanFrame;
 use codec::error::Checked;
 use codec::protocol::IdParts;
@@ -33,7 +33,8 @@ fn is_quiet(extended: bool, parts: IdParts) -> bool
     !is_read(parts)
 }
 
-// A frame at a time, a read reply not taken: 13 and 7 leave the state as it was; else it is counted, and held by its type.
+// A frame at a time, a read reply not taken: 13 and 7 leave the state as it was; else it is counted, and is get_version's
+// answer or held by its type.
 pub fn hear_state(s: State, frame: CanFrame, now: u64) -> StateHeard
     ensures { λ r. ⌜ r ≡ hearState s frame now ⌝ }
 {
@@ -41,7 +42,7 @@ pub fn hear_state(s: State, frame: CanFrame, now: u64) -> StateHeard
     let quiet = is_quiet(frame.is_extended, parts);
     match frame_admitted(s.motor_id, s.clock, quiet, parts, now) {
         Checked::Passed => return state_heard(
-            told_by(counted_at(s, now), parts, frame),
+            taken_by(counted_at(s, now), parts, frame),
             Checked::Passed,
         ),
         Checked::Refused(refusal) => return state_heard(s, Checked::Refused(refusal)),

@@ -97,6 +97,7 @@ commandRows v =
     ∷ (22, command.GetParameterWithHostId (half v 3) (half v 4) (getD v 5 0))
     ∷ (23, command.GetParameterF32 (half v 3) (getD v 4 0))
     ∷ (24, command.GetParameterI8 (half v 3) (getD v 4 0))
+    ∷ (25, command.GetVersion)
     ∷ []
 
 -- the command of this row, and c where no row has the number

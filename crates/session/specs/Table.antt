@@ -8,7 +8,7 @@ use Rattle.text.specs.Words.{wordCount, wordAt, pastWord, sameBytes}
 
 -- the commands of a start, each with the shape of the whole line
 abbrev pub commands : List ℕ
-commands = ascii "ping ITXT ping_with_host_id ITXIT set_mode ITXC ensure_control_mode ITXCT set_zero_position ITX save_parameters ITX get_protocol_flag ITXT set_protocol ITXPT set_device_id ITXB enable ITX disable ITX clear_error ITX set_active_report ITXF send_cmd_mit ITXWWWWW set_velocity_target ITXW get_control_mode ITXT controlled_stop ITXT write_parameter ITXHKW send_cmd_pos_vel_csp ITXWW send_cmd_pos_vel_pp ITXWWW request_parameter ITXH get_parameter ITXHT get_parameter_with_host_id ITXHIT get_parameter_f32 ITXHT get_parameter_i8 ITXHT"
+commands = ascii "ping ITXT ping_with_host_id ITXIT set_mode ITXC ensure_control_mode ITXCT set_zero_position ITX save_parameters ITX get_protocol_flag ITXT set_protocol ITXPT set_device_id ITXB enable ITX disable ITX clear_error ITX set_active_report ITXF send_cmd_mit ITXWWWWW set_velocity_target ITXW get_control_mode ITXT controlled_stop ITXT write_parameter ITXHKW send_cmd_pos_vel_csp ITXWW send_cmd_pos_vel_pp ITXWWW request_parameter ITXH get_parameter ITXHT get_parameter_with_host_id ITXHIT get_parameter_f32 ITXHT get_parameter_i8 ITXHT get_version ITX"
 
 -- the events but lines of a log; fresh has no argument, and a start's line goes on as its command says
 abbrev pub events : List ℕ

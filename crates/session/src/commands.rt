@@ -99,6 +99,7 @@ fn command_of(k: usize, v: [u64; 8]) -> Command
         22 => Command::GetParameterWithHostId(low16(v[3]), low16(v[4]), v[5]),
         23 => Command::GetParameterF32(low16(v[3]), v[4]),
         24 => Command::GetParameterI8(low16(v[3]), v[4]),
+        25 => Command::GetVersion,
         _ => Command::Ping(v[3]),
     }
 }

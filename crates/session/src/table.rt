@@ -6,8 +6,8 @@ ghost use lib.ListN.{length};
 ghost use Rattle.session.specs.Table.{placeOf};
 
 // The commands of a start, each with the shape of the whole line.
-pub const COMMANDS: [u8; 529] =
-    *b"ping ITXT ping_with_host_id ITXIT set_mode ITXC ensure_control_mode ITXCT set_zero_position ITX save_parameters ITX get_protocol_flag ITXT set_protocol ITXPT set_device_id ITXB enable ITX disable ITX clear_error ITX set_active_report ITXF send_cmd_mit ITXWWWWW set_velocity_target ITXW get_control_mode ITXT controlled_stop ITXT write_parameter ITXHKW send_cmd_pos_vel_csp ITXWW send_cmd_pos_vel_pp ITXWWW request_parameter ITXH get_parameter ITXHT get_parameter_with_host_id ITXHIT get_parameter_f32 ITXHT get_parameter_i8 ITXHT";
+pub const COMMANDS: [u8; 545] =
+    *b"ping ITXT ping_with_host_id ITXIT set_mode ITXC ensure_control_mode ITXCT set_zero_position ITX save_parameters ITX get_protocol_flag ITXT set_protocol ITXPT set_device_id ITXB enable ITX disable ITX clear_error ITX set_active_report ITXF send_cmd_mit ITXWWWWW set_velocity_target ITXW get_control_mode ITXT controlled_stop ITXT write_parameter ITXHKW send_cmd_pos_vel_csp ITXWW send_cmd_pos_vel_pp ITXWWW request_parameter ITXH get_parameter ITXHT get_parameter_with_host_id ITXHIT get_parameter_f32 ITXHT get_parameter_i8 ITXHT get_version ITX";
 
 // The events but lines of a log. fresh has no argument; a start's line goes on as its command says.
 pub const EVENTS: [u8; 69] =

@@ -20,9 +20,10 @@ use Rattle.motor.specs.Calls.{registerNumbers, startSaid, stepSaid}
 use Rattle.motor.specs.Lone.{Lone, LoneAnswered, LoneHeard, loneStart, loneStep, hears, loneLook, loneRemoval}
 use Rattle.motor.specs.Motors.{startBy, startOf, stepBy, stepOf, lookOf, removalOf, loneOf, AnsweredAs, HeardAs}
 use Rattle.motor.specs.Numbers.{firstOf}
-use Rattle.motor.specs.Receive.{acceptsFrame, stateAfter, toldBy as tells, countedAt, processFeedbackFrame}
+use Rattle.motor.specs.Receive.{acceptsFrame, stateAfter, toldBy as tells, answerTaken, countedAt, processFeedbackFrame}
 use Rattle.motor.proofs.LoneOperating.{start-both, step-both, look-both}
 use Rattle.motor.proofs.LoneReceiving.{heard-both}
+use Rattle.motor.proofs.Receiving.{either-rule}
 use Rattle.station.specs.declared.station.Station.{Station}
 use Rattle.station.specs.Calls.{register, start, step, frame, look, remove}
 use Rattle.station.specs.Calls.{says, answered, refused}
@@ -59,8 +60,8 @@ step-id checked.Passed m now = refl
 step-id (checked.Refused r) m now = refl
 
 hear-id : (k : Checked) (a : State) (f : CanFrame) (now : ℕ) → (stateAfter k a f now) .«motor_id» ≡ a .«motor_id»
-unfolding stateAfter tells countedAt
-hear-id checked.Passed a f now = refl
+unfolding stateAfter tells answerTaken countedAt
+hear-id checked.Passed a f now = either-rule (λ (s : State). s .«motor_id» ≡ a .«motor_id») (countedAt a now) f refl refl
 hear-id (checked.Refused r) a f now = go (among (numberOf r) countingNumbers)
   where
     go : (b : Bool) → (cond b (countedAt a now) a) .«motor_id» ≡ a .«motor_id»

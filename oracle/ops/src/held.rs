@@ -60,7 +60,7 @@ pub struct Fault {
 }
 
 impl Held {
-    /// The lines of a look from `responses` to `gains`.
+    /// The lines of a look from `responses` to `gains`. The Rust asks no version, so that none is held.
     pub fn lines(&self) -> Vec<String> {
         let (kp, kd) = self.gains.unwrap_or_default();
         let none = |name: &str| format!("{name} none");
@@ -70,6 +70,7 @@ impl Held {
             self.feedback.map_or(none("feedback"), |held| held.text()),
             self.fault.map_or(none("fault"), |held| held.text()),
             self.ping.map_or(none("ping"), |held| held.text()),
+            none("version"),
             format!("gains {kp:08X} {kd:08X}"),
         ]
     }

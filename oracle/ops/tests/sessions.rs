@@ -281,7 +281,7 @@ fn looks_and_refused_frames() {
             "sequence 0"
         ]
     );
-    assert_eq!(look[8..], ["running none", "reading 7005 I8 05", "end"]);
+    assert_eq!(look[9..], ["running none", "reading 7005 I8 05", "end"]);
     let (strange, look) = answers("(0.130000) can0 028002FD#0000000000000000");
     assert_eq!(strange, ["refused 13"]);
     assert_eq!(look[1], "clock 120");
@@ -291,21 +291,22 @@ fn looks_and_refused_frames() {
     let (_, look) = answers("(0.150000) can0 150001FD#0100010001000000");
     let fault =
         "fault 00010001 00000001 overtemperature,phase_a_overcurrent overtemperature_warning";
-    assert_eq!(look[5..8], [fault, "ping none", "gains 00000000 00000000"]);
+    assert_eq!(look[5..8], [fault, "ping none", "version none"]);
+    assert_eq!(look[8], "gains 00000000 00000000");
     let (sent, look) =
         answers("start 1 160 send_cmd_mit 0x00000000 0x00000000 0x3F800000 0x7FA00001 0x00000000");
     assert_eq!(
         sent,
         ["(0.160000) can0 017FFF01#7FFF7FFF00830000", "finished none"]
     );
-    assert_eq!(look[7..9], ["gains 3F800000 7FA00001", "running none"]);
+    assert_eq!(look[8..10], ["gains 3F800000 7FA00001", "running none"]);
     let (refused, look) = answers("start 1 170 set_device_id 0");
     assert_eq!(
         (refused, &look[1][..]),
         (vec!["refused 19".to_string()], "clock 160")
     );
     let (_, look) = answers("start 1 180 ping 200");
-    assert_eq!(look[8], "running ping due 380");
+    assert_eq!(look[9], "running ping due 380");
 }
 
 #[test]

@@ -1,6 +1,7 @@
 //! What a run met: commands, ends and models, and whether anything was never met.
 use crate::class::Class;
 use crate::make::{Case, Expected, Made};
+use crate::versions::Put;
 use common::MODELS;
 use ops::log::{Hearing, What};
 use std::collections::BTreeMap;
@@ -52,6 +53,7 @@ pub struct Count {
     ends: Tally,
     models: Tally,
     stations: Tally,
+    versions: Put,
 }
 
 impl Count {
@@ -81,6 +83,7 @@ impl Count {
             .iter()
             .map(|e| e.answers.len() as u64)
             .sum::<u64>();
+        self.versions.add(&expected.put);
         for entry in &expected.log.entries {
             self.entry(&entry.what);
         }
@@ -106,6 +109,7 @@ impl Count {
         }
         self.events += other.events;
         self.lines += other.lines;
+        self.versions.add(&other.versions);
         let pairs = [
             (&mut self.thrown, &other.thrown),
             (&mut self.commands, &other.commands),
@@ -142,6 +146,7 @@ impl Count {
             format!("models: {}", list(&self.models)),
             format!("stations by number of motors: {}", list(&self.stations)),
             format!("{thrown} schedules thrown away: {reasons}"),
+            self.versions.said(),
         ]
     }
 
@@ -159,7 +164,11 @@ impl Count {
             let names = names.iter().filter(|name| !tally.contains_key(**name));
             names.map(|name| name.to_string()).collect()
         };
-        lists.into_iter().flat_map(absent).collect()
+        let mut missing: Vec<String> = lists.into_iter().flat_map(absent).collect();
+        if !self.versions.has_all() {
+            missing.push("get_version".to_string());
+        }
+        missing
     }
 }
 
@@ -185,5 +194,7 @@ mod tests {
         count.commands.remove("enable");
         count.ends.remove("18");
         assert_eq!(count.missing(), ["enable", "18"]);
+        count.versions.silent = 0;
+        assert_eq!(count.missing(), ["enable", "18", "get_version"]);
     }
 }

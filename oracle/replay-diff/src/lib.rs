@@ -15,4 +15,5 @@ pub mod sample;
 pub mod shrink;
 pub mod station;
 pub mod text;
+pub mod versions;
 pub mod waits;

@@ -6,6 +6,7 @@ pub mod frames;
 
 use crate::class::Class;
 use crate::rules;
+use crate::versions::{self, Put};
 use common::random::Random;
 use common::MODELS;
 use director::Maker;
@@ -26,12 +27,15 @@ pub struct Case {
     pub class: Class,
     pub schedule: Schedule,
     pub detail: Detail,
+    /// The seed of the get_versions that are put in, if any.
+    pub versions: Option<u64>,
 }
 
-/// What the Rust did, and the session.
+/// What the Rust did, and the session, with what of get_version was put into it.
 pub struct Expected {
     pub log: Log,
     pub session: Session,
+    pub put: Put,
 }
 
 /// A case with what is expected, and why others were thrown away on the way. No case: none of the
@@ -47,7 +51,11 @@ impl Case {
         let log = run(&self.schedule)?;
         rules::check(&log, self.class)?;
         let session = Session::of(&log, self.detail)?;
-        Ok(Expected { log, session })
+        let (session, put) = match self.versions {
+            Some(seed) => versions::put(&session, seed),
+            None => (session, Put::default()),
+        };
+        Ok(Expected { log, session, put })
     }
 }
 
@@ -55,9 +63,10 @@ impl Case {
 pub fn make(seed: u64, index: u64) -> Made {
     let mut random = Random::new(seed, &format!("schedule {index}"));
     let class = Class::of(index);
+    let versions = asks_versions(seed, index);
     let mut thrown = Vec::new();
     for _ in 0..ATTEMPTS {
-        let made = attempt(&mut random, class);
+        let made = attempt(&mut random, class, versions);
         match made {
             Ok(good) => {
                 let good = Some(good);
@@ -69,7 +78,17 @@ pub fn make(seed: u64, index: u64) -> Made {
     Made { good: None, thrown }
 }
 
-fn attempt(random: &mut Random, class: Class) -> Result<(Case, Expected), String> {
+/// get_version in one of four, by random numbers of its own.
+fn asks_versions(seed: u64, index: u64) -> Option<u64> {
+    let mut random = Random::new(seed, &format!("versions of {index}"));
+    (random.below(4) == 0).then(|| random.word64())
+}
+
+fn attempt(
+    random: &mut Random,
+    class: Class,
+    versions: Option<u64>,
+) -> Result<(Case, Expected), String> {
     let beginning = beginning(random, class);
     let maker = Maker::new(random, class, &beginning);
     let schedule = direct(beginning, Box::new(maker))?;
@@ -78,11 +97,12 @@ fn attempt(random: &mut Random, class: Class) -> Result<(Case, Expected), String
         class,
         schedule,
         detail,
+        versions,
     };
     let mut expected = case.expected()?;
     if detail.polls && expected.session.exchanges.len() <= LONGEST_WITH_POLLS {
         case.detail.looks = true;
-        expected.session = Session::of(&expected.log, case.detail)?;
+        expected = case.expected()?;
     }
     Ok((case, expected))
 }
@@ -162,7 +182,8 @@ mod tests {
     /// calls, from the due time in force and from the last one that came.
     #[test]
     fn frames_keep_away() {
-        for (_, expected) in cases(3).filter(|(case, _)| case.class.is_strict()) {
+        let strict = |case: &Case| case.class.is_strict() && case.versions.is_none();
+        for (_, expected) in cases(3).filter(|(case, _)| strict(case)) {
             let (mut last, mut due): (Option<u64>, Option<u64>) = (None, None);
             let mut looked_at = None;
             for Exchange { event, answers } in &expected.session.exchanges {
@@ -194,7 +215,9 @@ mod tests {
     /// On the grid each step is at the time of the frame before it or at the due time.
     #[test]
     fn steps_on_the_grid() {
-        let grid = |case: &Case| case.class == Class::Grid && !case.detail.polls;
+        let grid = |case: &Case| {
+            case.class == Class::Grid && !case.detail.polls && case.versions.is_none()
+        };
         for (_, expected) in cases(4).filter(|(case, _)| grid(case)) {
             let (mut due, mut heard) = (None, None);
             for exchange in &expected.session.exchanges {

@@ -1,5 +1,5 @@
 //! The recorded sample: a session in stdin and its answers in stdout. Part 1 has its answers from the
-//! Rust's log, part 2 has them by hand from document 01. Replay has no part in it.
+//! Rust's log, part 2 has them by hand from documents 01 and 02. Replay has no part in it.
 mod by_hand;
 mod incident;
 mod operations;
@@ -31,7 +31,7 @@ pub fn make() -> Sample {
     operations::sessions()
         .iter()
         .for_each(|titled| sample.add(titled));
-    sample.note("Part 2: the answers are written by hand from document 01 (oracle/replay-diff/src/sample/by_hand.txt)");
+    sample.note("Part 2: the answers are written by hand from documents 01 and 02 (oracle/replay-diff/src/sample/by_hand.txt)");
     by_hand::sessions()
         .iter()
         .for_each(|titled| sample.add(titled));

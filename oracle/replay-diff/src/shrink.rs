@@ -129,6 +129,7 @@ fn plainer(case: &Case, all: &mut Vec<Case>) {
         change(&mut case);
         on.then_some(case)
     };
+    all.extend(off(case.versions.is_some(), |case| case.versions = None));
     all.extend(off(detail.polls, |case| case.detail.polls = false));
     all.extend(off(detail.frames, |case| case.detail.frames = false));
     all.extend(off(detail.looks, |case| case.detail.looks = false));

@@ -17,7 +17,7 @@ fn asked(input: &[u8]) -> usize {
 
 /// How many answers an output has: of a look the last line counts, and frames are no answers.
 fn answered(output: &str) -> Result<usize, String> {
-    const INSIDE: [&str; 10] = [
+    const INSIDE: [&str; 11] = [
         "motor",
         "clock",
         "responses",
@@ -25,6 +25,7 @@ fn answered(output: &str) -> Result<usize, String> {
         "feedback",
         "fault",
         "ping",
+        "version",
         "gains",
         "running",
         "reading",
@@ -76,7 +77,7 @@ pub fn any_words() -> Result<String, String> {
     const FIRST: [&str; 9] = [
         "register", "start", "step", "look", "remove", "frame", "(0.5", "fresh", "start",
     ];
-    const WORDS: [&str; 40] = [
+    const WORDS: [&str; 41] = [
         "1",
         "2",
         "0xFD",
@@ -90,6 +91,7 @@ pub fn any_words() -> Result<String, String> {
         "enable",
         "disable",
         "ping",
+        "get_version",
         "controlled_stop",
         "ensure_control_mode",
         "mit",

@@ -255,6 +255,7 @@ sequence 1
 feedback 02BF07AB 07 2 41490FDB C2480000 00000000 3DCCCCCD undervoltage,overcurrent,overtemperature,magnetic_encoder_fault,stall,uncalibrated
 fault 00010005 00000000 overtemperature,undervoltage,phase_a_overcurrent -
 ping 07 AB 0102030405060708
+version none
 gains 7FC00001 40A00000
 running controlled_stop due 360
 reading 2000 U16 1234

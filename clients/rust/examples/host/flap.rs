@@ -1,12 +1,13 @@
-//! What the host does with one flap: set it up, swing it, and when it jams read its angle and hold it
+//! What the host does with one flap: ask its version, set it up, swing it, and when it jams read its angle and hold it
 //! there.
 use crate::motor::{ANGLE, TARGET};
-use combradish_client::{Command, Mode, Outcome, Refusal, Said, Word};
+use combradish_client::{Command, Mode, Outcome, Refusal, Said, Version, Word};
 
 /// What is to be done next, or is being done.
 #[derive(Clone, Copy, Debug, PartialEq, Eq)]
 pub enum Stage {
     Ping,
+    Version,
     Mode,
     Report,
     Swing,
@@ -36,6 +37,7 @@ pub struct Flap {
     swing: f32,
     stalled: bool,
     pub angle: Option<Word>,
+    pub version: Option<Version>,
     pub retries: u32,
     /// Operations in a row that nobody answered.
     unanswered: u32,
@@ -51,6 +53,7 @@ impl Flap {
             swing: 0.5 + 0.1 * f32::from(id),
             stalled: false,
             angle: None,
+            version: None,
             retries: 0,
             unanswered: 0,
         }
@@ -64,6 +67,7 @@ impl Flap {
         let timeout = TIMEOUT;
         Some(match self.stage {
             Stage::Ping => Command::Ping { timeout },
+            Stage::Version => Command::GetVersion,
             Stage::Mode => Command::EnsureControlMode {
                 mode: Mode::PositionCsp,
                 timeout,
@@ -137,7 +141,11 @@ impl Flap {
     fn finished(&mut self, outcome: Outcome, now: u64) -> Result<(), String> {
         self.unanswered = 0;
         self.stage = match (self.stage, outcome) {
-            (Stage::Ping, Outcome::Ping(_)) => Stage::Mode,
+            (Stage::Ping, Outcome::Ping(_)) => Stage::Version,
+            (Stage::Version, Outcome::Version(version)) => {
+                self.version = Some(version);
+                Stage::Mode
+            }
             (Stage::Mode, Outcome::Nothing) => Stage::Report,
             (Stage::Report, Outcome::Nothing) => {
                 self.next = now + PAUSE;

@@ -5,7 +5,8 @@ use crate::flap::{Flap, Stage};
 use crate::motor::{Motor, ANGLE};
 use crate::script::Script;
 use combradish_client::{
-    Heard, HeardId, Model, Recording, Refusal, Reply, Stamp, StateFlag, Station, Taken, Value, Word,
+    Heard, HeardId, Model, Recording, Refusal, Reply, Stamp, StateFlag, Station, Taken, Value,
+    Version, Word,
 };
 use std::error::Error;
 use std::fs::File;
@@ -208,9 +209,31 @@ impl Line {
             let (id, data) = (sent.id, sent.data);
             self.bus.send(self.micros(), Frame { id, data });
         }
-        match self.flaps.get_mut(place) {
-            Some(flap) => Ok(flap.said(reply.said, now)?),
-            None => Ok(()),
+        let Some(flap) = self.flaps.get_mut(place) else {
+            return Ok(());
+        };
+        let asked = flap.stage == Stage::Version;
+        flap.said(reply.said, now)?;
+        match asked && flap.stage == Stage::Mode {
+            true => self.told(place),
+            false => Ok(()),
+        }
+    }
+
+    /// A flap's version has come: it is its own motor's, and no reply was taken for a status.
+    fn told(&mut self, place: usize) -> Outcome<()> {
+        let (motor, flap) = (&self.motors[place], &self.flaps[place]);
+        let own = Version {
+            device: motor.id,
+            version: motor.version(),
+        };
+        if flap.version != Some(own) {
+            return Err(format!("flap {} told another's version", flap.id).into());
+        }
+        let held = self.station.look(u16::from(flap.id))?.result()?;
+        match (held.version, held.feedback, held.sequence) {
+            (None, None, 0) => Ok(()),
+            _ => Err(format!("flap {} has ghost telemetry", held.registered.id).into()),
         }
     }
 

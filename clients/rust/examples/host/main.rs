@@ -1,5 +1,6 @@
 //! A host over the client: eight simulated motors on a simulated bus, in real time. Replies come late,
-//! out of order or not at all, by a seed. In the script `jam` flaps 2 and 6 jam at the same moment; the
+//! out of order or not at all, by a seed. Each motor is asked for its version first, and the reply must
+//! be its own and no status. In the script `jam` flaps 2 and 6 jam at the same moment; the
 //! host reads their angles and holds each at its own while the others go on. In `silent` motor 4
 //! answers no more and is given up, in `calm` nothing happens.
 //!

@@ -9,6 +9,8 @@ pub const VELOCITY_LIMIT: u16 = 0x7017;
 pub const ANGLE: u16 = 0x7019;
 
 const CSP: u8 = 5;
+/// A type 4 frame with this payload asks for the version and disables nothing.
+const VERSION_REQUEST: [u8; 8] = [0, 0xC4, 0, 0, 0, 0, 0, 0];
 const P_MAX: f32 = 4.0 * PI;
 /// 25.0 degrees.
 const TEMPERATURE: [u8; 2] = [0x00, 0xFA];
@@ -111,6 +113,7 @@ impl Motor {
             0 => return Some(self.ping()),
             1 => self.motion = position([frame.data[0], frame.data[1]]),
             3 => self.enabled = true,
+            4 if frame.data == VERSION_REQUEST => return Some(self.version_reply()),
             4 => self.enabled = false,
             6 => self.angle = 0.0,
             7 => {
@@ -145,6 +148,16 @@ impl Motor {
         let mut frame = self.frame(0, 0, [0xC0, 0x3B, 0, 0, 0, 0, 0, self.id]);
         frame.id |= 0xFE;
         frame
+    }
+
+    /// The firmware's version; the last byte is the motor's own.
+    pub fn version(&self) -> [u8; 4] {
+        [0, 3, 1, self.id]
+    }
+
+    fn version_reply(&self) -> Frame {
+        let [a, b, c, d] = self.version();
+        self.frame(2, 0, [0x00, 0xC4, 0x56, a, b, c, d, 0])
     }
 
     fn status(&self, kind: u32) -> Frame {

@@ -30,12 +30,14 @@ hostCandidates own = record { hosts = take 4 (candidates own ++ (0 ∷ 0 ∷ 0 �
 abbrev pub hostAt : Candidates → ℕ → Host
 hostAt c i = cond (ltb i (c .count)) (host.At (getD (c .hosts) i 0) (i + 1)) host.Gone
 
--- a request goes to the candidates in turn, or to one named host, once
+-- a request goes to the candidates in turn; or once, to one named host or to the motor's own
 
 abbrev pub firstHost : ℕ → Hosts → ℕ
 firstHost own hosts.Candidates = own
 firstHost own (hosts.Named h) = h
+firstHost own hosts.Own = own
 
 abbrev pub nextHost : ℕ → Hosts → ℕ → Host
 nextHost own hosts.Candidates i = hostAt (hostCandidates own) i
 nextHost own (hosts.Named h) i = host.Gone
+nextHost own hosts.Own i = host.Gone

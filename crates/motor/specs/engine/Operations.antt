@@ -47,6 +47,7 @@ beginsWith (command.GetParameter id timeout) = getParameter id timeout got.Value
 beginsWith (command.GetParameterWithHostId id host timeout) = node.Await (wait.Value id got.Value) (windowOf timeout 0) (hosts.Named host)
 beginsWith (command.GetParameterF32 id timeout) = getParameter id timeout got.F32
 beginsWith (command.GetParameterI8 id timeout) = getParameter id timeout got.I8
+beginsWith command.GetVersion = node.Await wait.Version 240 hosts.Own
 
 -- what follows an acknowledgement, or a pause
 abbrev pub ackedOf : Acked → Node
@@ -112,3 +113,4 @@ abbrev pub windowsGone : Wait → Node
 windowsGone (wait.Acknowledged by r k) = notAcked k
 windowsGone (wait.Value id k) = noValue k
 windowsGone (wait.Ping k) = failedBySilence
+windowsGone wait.Version = failedBySilence

@@ -8,7 +8,7 @@ use Rattle.codec.specs.declared.word.Word.{Word}
 use Rattle.codec.specs.Ids.{buildExtId}
 use Rattle.codec.specs.Models.{limitsOf}
 use Rattle.codec.specs.Motion.{encodeMitCommand}
-use Rattle.codec.specs.Replies.{zeros, encodeSetProtocol}
+use Rattle.codec.specs.Replies.{zeros, encodeSetProtocol, encodeVersionRequest}
 use Rattle.codec.specs.Values.{encodeParameterRead, encodeParameterWrite}
 use Rattle.codec.specs.Words.{valueOf}
 use Rattle.motor.specs.declared.engine.operation.Sight.{Sight}
@@ -26,6 +26,7 @@ requestType (request.Write id raw) = 18
 requestType request.SaveParameters = 22
 requestType (request.ActiveReport on) = 24
 requestType (request.SetProtocol protocol) = 25
+requestType request.Version = 4
 
 -- a first byte of 1, then zeros
 abbrev pub one : List ℕ
@@ -42,6 +43,7 @@ requestPayload (request.Write id raw) = encodeParameterWrite id raw
 requestPayload request.SaveParameters = 1 ∷ 2 ∷ 3 ∷ 4 ∷ 5 ∷ 6 ∷ 7 ∷ 8 ∷ []
 requestPayload (request.ActiveReport on) = 1 ∷ 2 ∷ 3 ∷ 4 ∷ 5 ∷ 6 ∷ cond on 1 0 ∷ 0 ∷ []
 requestPayload (request.SetProtocol protocol) = encodeSetProtocol protocol .payload
+requestPayload request.Version = encodeVersionRequest
 
 -- a frame sent has dlc 8, is extended and not received
 abbrev pub frameTo : Sight → ℕ → ℕ → List ℕ → CanFrame

@@ -1,12 +1,14 @@
 -- How an operation goes on: windows, candidates, marks, deadlines and pauses, once for all operations. Definitions only.
 use Prim.Native.Nat.{ℕ, _+_}
-use mathlib.Core.Bool.{cond}
-use mathlib.Core.List.{[]}
+use mathlib.Core.Bool.{false, cond}
+use mathlib.Core.List.{[], _∷_}
 use lib.Dec.{ltb, eqb}
+use lib.ListN.{getD}
 use Rattle.codec.specs.declared.bus.CanFrame.{CanFrame}
 use Rattle.codec.specs.Numbers.{refusalOf}
 use Rattle.codec.specs.declared.protocol.EncodedValue.{EncodedValue}
 use Rattle.codec.specs.declared.protocol.EncodedValue.the-variants as encoded
+use Rattle.codec.specs.declared.replies.VersionReply.{VersionReply}
 use Rattle.codec.specs.declared.word.Word.{Word}
 use Rattle.codec.specs.Replies.{zeros}
 use Rattle.codec.specs.Values.{encodeParameterValue}
@@ -21,6 +23,7 @@ use Rattle.motor.specs.declared.engine.command.Said.{Said}
 use Rattle.motor.specs.declared.engine.command.Said.the-variants as said
 use Rattle.motor.specs.declared.engine.operation.Effect.{Effect}
 use Rattle.motor.specs.declared.engine.operation.Effect.the-variants as effect
+use Rattle.motor.specs.declared.engine.operation.HeldVersion.{HeldVersion}
 use Rattle.motor.specs.declared.engine.operation.Move.{Move}
 use Rattle.motor.specs.declared.engine.operation.Operation.{Operation}
 use Rattle.motor.specs.declared.engine.operation.Phase.{Phase}
@@ -49,12 +52,17 @@ use Rattle.motor.specs.engine.Script.{windowOf, word}
 
 -- ---- how an operation stands
 
+-- no answer to a get_version
+abbrev pub noVersion : HeldVersion
+noVersion = record { held = false; reply = record { «device_id» = 0; version = 0 ∷ 0 ∷ 0 ∷ 0 ∷ [] } }
+
 abbrev pub noOperation : Operation
-noOperation = record { phase = phase.Idle; due = 0; window = 0; hosts = hosts.Candidates; host = 0; candidate = 0; mark = 0 }
+noOperation = record { phase = phase.Idle; due = 0; window = 0; hosts = hosts.Candidates; host = 0; candidate = 0; mark = 0; answer = noVersion }
 
 -- before what follows a pause that ends at this time; a further frame needing no wait is due at the call's own time
 abbrev pub pausingUntil : Acked → ℕ → Operation
-pausingUntil k until = record { phase = phase.Pausing k; due = until; window = 0; hosts = hosts.Candidates; host = 0; candidate = 0; mark = 0 }
+pausingUntil k until =
+    record { phase = phase.Pausing k; due = until; window = 0; hosts = hosts.Candidates; host = 0; candidate = 0; mark = 0; answer = noVersion }
 
 -- ---- moves
 
@@ -71,6 +79,18 @@ abbrev pub pingReported : Sight → Move
 pingReported s =
     let reply = s .«ping_reply» .reply in
     record { said = said.Finished (outcome.Ping (reply .«device_id») (reply .«responder_id»)); frame = noFrame; result = reply .payload; operation = noOperation; effect = effect.Nothing }
+
+-- a version: its device, and its four bytes beside
+abbrev pub versionReported : VersionReply → Move
+versionReported r =
+    let v = r .version in
+    record {
+      said = said.Finished (outcome.Version (r .«device_id»));
+      frame = noFrame;
+      result = getD v 0 0 ∷ getD v 1 0 ∷ getD v 2 0 ∷ getD v 3 0 ∷ 0 ∷ 0 ∷ 0 ∷ 0 ∷ [];
+      operation = noOperation;
+      effect = effect.Nothing;
+    }
 
 -- nothing is sent until this time
 abbrev pub pauses : Acked → ℕ → Move
@@ -90,12 +110,14 @@ abbrev pub requestOf : Wait → Request
 requestOf (wait.Acknowledged by r k) = r
 requestOf (wait.Value id k) = request.Read id
 requestOf (wait.Ping k) = request.Ping
+requestOf wait.Version = request.Version
 
 -- each send of a read or a ping first drops the old value
 abbrev pub droppedBy : Wait → Effect
 droppedBy (wait.Acknowledged by r k) = effect.Nothing
 droppedBy (wait.Value id k) = effect.ForgetReading id
 droppedBy (wait.Ping k) = effect.ForgetPing
+droppedBy wait.Version = effect.Nothing
 
 abbrev pub countBy : Sight → Acknowledgement → ℕ
 countBy s by.Status = s .sequence
@@ -106,15 +128,17 @@ abbrev pub markOf : Sight → Wait → ℕ
 markOf s (wait.Acknowledged by r k) = countBy s by
 markOf s (wait.Value id k) = 0
 markOf s (wait.Ping k) = 0
+markOf s wait.Version = 0
 
--- the request goes to this host, its window from now on; the next attempt would be at this place
+-- the request goes to this host, its window from now on, and has no answer yet; the next attempt would be at this place
 abbrev pub tried : Sight → ℕ → Wait → ℕ → Hosts → ℕ → ℕ → Move
 tried s now w window whom h next =
     record {
       said = said.Sent (now + window);
       frame = requestFrame s (requestOf w) h;
       result = zeros;
-      operation = record { phase = phase.Waiting w; due = now + window; window = window; hosts = whom; host = h; candidate = next; mark = markOf s w };
+      operation =
+          record { phase = phase.Waiting w; due = now + window; window = window; hosts = whom; host = h; candidate = next; mark = markOf s w; answer = noVersion };
       effect = droppedBy w;
     }
 
@@ -162,6 +186,7 @@ droppedByLast (request.Write id raw) = effect.Nothing
 droppedByLast request.SaveParameters = effect.Nothing
 droppedByLast (request.ActiveReport on) = effect.Nothing
 droppedByLast (request.SetProtocol protocol) = effect.Nothing
+droppedByLast request.Version = effect.Nothing
 
 -- a motion command is finished as it is sent; its gains are held as given
 abbrev pub motionSent : Sight → Word → Word → Word → Word → Word → Outcome → Move
@@ -210,10 +235,15 @@ lookedValue s now op id k found.Nothing = timed s now op (wait.Value id k) (wait
 abbrev pub lookedPing : Sight → ℕ → Operation → Pinged → Move
 lookedPing s now op k = cond (s .«ping_reply» .held) (entered s now (gotPing k)) (timed s now op (wait.Ping k) (waits op))
 
+-- get_version: the answer first, then the deadline; it can't be 23 (specs/Versions)
+abbrev pub lookedVersion : Sight → ℕ → Operation → Move
+lookedVersion s now op = cond (op .answer .held) (versionReported (op .answer .reply)) (timed s now op wait.Version (waits op))
+
 abbrev pub looked : Sight → ℕ → Operation → Found → Wait → Move
 looked s now op f (wait.Acknowledged by r k) = lookedAck s now op by r k
 looked s now op f (wait.Value id k) = lookedValue s now op id k f
 looked s now op f (wait.Ping k) = lookedPing s now op k
+looked s now op f wait.Version = lookedVersion s now op
 
 abbrev pub lookedPause : Sight → ℕ → Operation → Acked → Move
 lookedPause s now op k = cond (ltb now (op .due)) (waits op) (entered s now (ackedOf k))

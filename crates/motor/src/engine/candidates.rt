@@ -8,10 +8,11 @@ pub struct Candidates {
     pub count: u8,
 }
 
-// Whom a request goes to: the candidates in turn, or one named host, once.
+// Whom a request goes to: the candidates in turn; or once, to one named host or to the motor's own.
 pub enum Hosts {
     Candidates,
     Named(u16),
+    Own,
 }
 
 // The host of an attempt with the place of the next, or none.
@@ -43,6 +44,7 @@ pub(super) fn first_host(own: u16, hosts: Hosts) -> u16
     match hosts {
         Hosts::Candidates => own,
         Hosts::Named(host) => host,
+        Hosts::Own => own,
     }
 }
 
@@ -65,5 +67,6 @@ pub(super) fn next_host(own: u16, hosts: Hosts, place: u8) -> Host
     match hosts {
         Hosts::Candidates => host_at(own, place),
         Hosts::Named(_) => Host::Gone,
+        Hosts::Own => Host::Gone,
     }
 }

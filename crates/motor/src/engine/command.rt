@@ -1,4 +1,4 @@
-// The calls that start an operation, by the Rust's method names, and what they answer.
+// The calls that start an operation, by the Rust's method names, and what they answer; get_version, the last, is document 02's T-01.
 use codec::error::Refusal;
 use codec::protocol::ParameterValue;
 use codec::registers::ControlMode;
@@ -31,10 +31,11 @@ pub enum Command {
     GetParameterWithHostId(u16, u16, u64),
     GetParameterF32(u16, u64),
     GetParameterI8(u16, u64),
+    GetVersion,
 }
 
 // What a finished operation gives: nothing, a ping's device and responder (its payload stands beside), a mode, a value, the
-// protocol flag, a float, a signed number.
+// protocol flag, a float, a signed number, a version's device (its four bytes stand beside).
 pub enum Outcome {
     Done,
     Ping(u8, u8),
@@ -43,6 +44,7 @@ pub enum Outcome {
     Flag(u8),
     F32(Word),
     I8(i8),
+    Version(u8),
 }
 
 // What a start or a step says: sent or waiting, with the next due time; finished, or finished together with a last frame; or

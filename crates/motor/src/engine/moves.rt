@@ -16,6 +16,7 @@ use crate::engine::requests::motion_frame;
 use crate::engine::requests::no_frame;
 use crate::engine::requests::rename_frame;
 use crate::engine::requests::request_frame;
+use crate::engine::version::no_version;
 use codec::bus::CanFrame;
 use codec::word::Word;
 ghost use mathlib.Core.Path.{_≡_};
@@ -39,6 +40,7 @@ pub fn no_operation() -> Operation
         host: 0,
         candidate: 0,
         mark: 0,
+        answer: no_version(),
     }
 }
 
@@ -54,6 +56,7 @@ fn pausing_until(then: Acked, until: u64) -> Operation
         host: 0,
         candidate: 0,
         mark: 0,
+        answer: no_version(),
     }
 }
 
@@ -148,6 +151,7 @@ fn request_of(wait: Wait) -> Request
         Wait::Acknowledged(_, request, _) => request,
         Wait::Value(id, _) => Request::Read(id),
         Wait::Ping(_) => Request::Ping,
+        Wait::Version => Request::Version,
     }
 }
 
@@ -159,6 +163,7 @@ fn dropped_by(wait: Wait) -> Effect
         Wait::Acknowledged(_, _, _) => Effect::Nothing,
         Wait::Value(id, _) => Effect::ForgetReading(id),
         Wait::Ping(_) => Effect::ForgetPing,
+        Wait::Version => Effect::Nothing,
     }
 }
 
@@ -180,6 +185,7 @@ fn mark_of(sight: Sight, wait: Wait) -> u64
         Wait::Acknowledged(by, _, _) => count_by(sight, by),
         Wait::Value(_, _) => 0,
         Wait::Ping(_) => 0,
+        Wait::Version => 0,
     }
 }
 
@@ -212,6 +218,7 @@ pub(super) fn tried(
             host,
             candidate: next,
             mark,
+            answer: no_version(),
         },
         effect,
     }
@@ -234,6 +241,7 @@ fn dropped_by_last(request: Request) -> Effect
         Request::SaveParameters => Effect::Nothing,
         Request::ActiveReport(_) => Effect::Nothing,
         Request::SetProtocol(_) => Effect::Nothing,
+        Request::Version => Effect::Nothing,
     }
 }
 

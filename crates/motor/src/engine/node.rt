@@ -71,6 +71,7 @@ pub enum Request {
     SaveParameters,
     ActiveReport(bool),
     SetProtocol(u8),
+    Version,
 }
 
 // What acknowledges: a rise of the feedback sequence, or of the response count.
@@ -84,6 +85,7 @@ pub enum Wait {
     Acknowledged(Acknowledgement, Request, Acked),
     Value(u16, Got),
     Ping(Pinged),
+    Version,
 }
 
 // What an operation does next.

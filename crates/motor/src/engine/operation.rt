@@ -6,6 +6,7 @@ use crate::engine::node::Wait;
 use codec::bus::CanFrame;
 use codec::model::Model;
 use codec::replies::PingReply;
+use codec::replies::VersionReply;
 use codec::word::Word;
 
 // Where an operation stands: nowhere, before what follows a pause (or is due at once), or in a wait.
@@ -15,8 +16,14 @@ pub enum Phase {
     Waiting(Wait),
 }
 
+// The answer that a running get_version has so far, if one came; else zeros.
+pub struct HeldVersion {
+    pub held: bool,
+    pub reply: VersionReply,
+}
+
 // The running operation: its phase and next due time; of a wait its window, whom it asks, the host of this attempt, the place
-// of the next, and the count or sequence at this send. What a phase doesn't use is 0.
+// of the next, the count or sequence at this send, and a get_version's answer. What a phase doesn't use is 0.
 pub struct Operation {
     pub phase: Phase,
     pub due: u64,
@@ -25,6 +32,7 @@ pub struct Operation {
     pub host: u16,
     pub candidate: u8,
     pub mark: u64,
+    pub answer: HeldVersion,
 }
 
 // A ping reply, if one is held; else zeros.
@@ -61,7 +69,7 @@ pub enum Effect {
 }
 
 // One move of an operation: what is said, the frame sent and the result's bytes, how the operation stands then, and what
-// changes of what is held. No frame is noFrame; the bytes are a ping's payload, else zeros.
+// changes of what is held. No frame is noFrame; the bytes are a ping's payload, or a version's four and zeros, else zeros.
 pub struct Move {
     pub said: Said,
     pub frame: CanFrame,

@@ -146,6 +146,7 @@ pub(super) fn begins_with(command: Command) -> Node
         ),
         Command::GetParameterF32(id, timeout) => get_parameter(id, timeout, Got::F32),
         Command::GetParameterI8(id, timeout) => get_parameter(id, timeout, Got::I8),
+        Command::GetVersion => Node::Await(Wait::Version, 240, Hosts::Own),
     }
 }
 
@@ -233,5 +234,6 @@ pub(super) fn windows_gone(wait: Wait) -> Node
         Wait::Acknowledged(_, _, then) => not_acked(then),
         Wait::Value(_, then) => no_value(then),
         Wait::Ping(_) => failed_by_silence(),
+        Wait::Version => failed_by_silence(),
     }
 }

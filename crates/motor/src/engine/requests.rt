@@ -9,6 +9,7 @@ use codec::protocol::build_ext_id;
 use codec::protocol::encode_parameter_read;
 use codec::protocol::encode_parameter_write;
 use codec::protocol::encode_set_protocol;
+use codec::replies::encode_version_request;
 use codec::word::Word;
 use codec::word::value;
 ghost use mathlib.Core.Path.{_≡_};
@@ -31,6 +32,7 @@ fn request_type(request: Request) -> u32
         Request::SaveParameters => CommunicationType::SAVE_PARAMETERS,
         Request::ActiveReport(_) => CommunicationType::ACTIVE_REPORT,
         Request::SetProtocol(_) => CommunicationType::SET_PROTOCOL,
+        Request::Version => CommunicationType::DISABLE,
     }
 }
 
@@ -68,6 +70,7 @@ fn request_payload(request: Request) -> [u8; 8]
         Request::SaveParameters => [1, 2, 3, 4, 5, 6, 7, 8],
         Request::ActiveReport(on) => [1, 2, 3, 4, 5, 6, switch(on), 0],
         Request::SetProtocol(protocol) => protocol_payload(protocol),
+        Request::Version => encode_version_request(),
     }
 }
 

@@ -37,6 +37,7 @@ use crate::engine::operations::windows_gone;
 use crate::engine::reading::Found;
 use crate::engine::requests::request_frame;
 use crate::engine::script::window_of;
+use crate::engine::version::version_reported;
 use crate::limits::LATEST;
 use codec::bus::CanFrame;
 use codec::error::Refusal;
@@ -48,7 +49,7 @@ ghost use Prim.Native.Nat.{_≤_};
 ghost use Rattle.motor.specs.Limits.{latestTime};
 ghost use Rattle.motor.specs.engine.Operations.{ackedOf};
 ghost use Rattle.codec.specs.Values.{encodeParameterValue};
-ghost use Rattle.motor.specs.engine.Run.{afterNode, sendThen, awaited, lookedPause, writeRaw, write, entered, retried, lookedAck, lookedValue, lookedPing, looked, advanced, begunBy, tooLate, inTime};
+ghost use Rattle.motor.specs.engine.Run.{afterNode, sendThen, awaited, lookedPause, writeRaw, write, entered, retried, lookedAck, lookedValue, lookedPing, lookedVersion, looked, advanced, begunBy, tooLate, inTime};
 
 // ---- a node is entered
 
@@ -207,6 +208,22 @@ fn looked_ping(sight: Sight, now: u64, operation: Operation, then: Pinged) -> Mo
     retried(sight, now, operation, Wait::Ping(then))
 }
 
+// A version likewise: the answer first, then the deadline.
+fn looked_version(sight: Sight, now: u64, operation: Operation) -> Move
+    requires { ⌜ now ≤ latestTime ⌝ }
+    ensures { λ r. ⌜ r ≡ lookedVersion sight now operation ⌝ }
+{
+    let answer = operation.answer;
+    if answer.held {
+        let reply = answer.reply;
+        return version_reported(reply);
+    }
+    if now < operation.due {
+        return waits(operation);
+    }
+    retried(sight, now, operation, Wait::Version)
+}
+
 fn looked(sight: Sight, now: u64, operation: Operation, found: Found, wait: Wait) -> Move
     requires { ⌜ now ≤ latestTime ⌝ }
     ensures { λ r. ⌜ r ≡ looked sight now operation found wait ⌝ }
@@ -222,6 +239,7 @@ fn looked(sight: Sight, now: u64, operation: Operation, found: Found, wait: Wait
         ),
         Wait::Value(id, then) => return looked_value(sight, now, operation, id, then, found),
         Wait::Ping(then) => return looked_ping(sight, now, operation, then),
+        Wait::Version => return looked_version(sight, now, operation),
     }
 }
 

@@ -69,10 +69,10 @@ with-free m n = record { state = m .state; readings = record { records = m .read
 -- ---- bytes: of a motor and of a record; where the readings, a record's next and the first free record lie
 
 abbrev motorSize : ℕ
-motorSize = 1800
+motorSize = 1808
 
 abbrev readingsAt : ℕ
-readingsAt = 240
+readingsAt = 248
 
 abbrev pub recordSize : ℕ
 recordSize = 16

@@ -15,6 +15,9 @@ find-requires c κs = search needs
 enum-told-2 : tie.Need-enum-told-2
 enum-told-2 c = search needs
 
+enum-told-3 : tie.Need-enum-told-3
+enum-told-3 c = search needs
+
 returns : tie.Need-returns
 returns c = search needs
 
@@ -24,7 +27,19 @@ returns-2 c = rw (c .before .before .wait .given .1) (c .find .ensures .0)
 returns-3 : tie.Need-returns-3
 returns-3 c = search needs
 
+returns-4 : tie.Need-returns-4
+returns-4 c = search needs
+
 pub wanted-in-spec : {M : Type 1} → statement M
 wanted-in-spec =
     tie.close
-    (tie.spec enum-told enum-known-wait find-requires enum-told-2 returns returns-2 returns-3)
+    (tie.spec
+    enum-told
+    enum-known-wait
+    find-requires
+    enum-told-2
+    enum-told-3
+    returns
+    returns-2
+    returns-3
+    returns-4)

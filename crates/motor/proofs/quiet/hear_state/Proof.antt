@@ -19,8 +19,8 @@ enum-told c = search needs
 counted-at-requires : tie.Need-counted-at-requires
 counted-at-requires c κs = search needs
 
-told-by-requires : tie.Need-told-by-requires
-told-by-requires c κs = search needs
+taken-by-requires : tie.Need-taken-by-requires
+taken-by-requires c κs = search needs
 
 state-heard-requires : tie.Need-state-heard-requires
 state-heard-requires c κs = search needs
@@ -30,7 +30,7 @@ returns c = let k = c .before .before in
     let f = k .before .before .before in
     let p = f .before .before in
     let a = p .before .args in
-    rw (state-heard-by (a .s) (a .frame) (a .now), ← p .ext-id-parts .ensures, ← f .before .is-quiet .ensures, ← f .frame-admitted .ensures, k .before .enum-told .given .1, ← k .counted-at .ensures, ← c .before .told-by .ensures) (c .state-heard .ensures)
+    rw (state-heard-by (a .s) (a .frame) (a .now), ← p .ext-id-parts .ensures, ← f .before .is-quiet .ensures, ← f .frame-admitted .ensures, k .before .enum-told .given .1, ← k .counted-at .ensures, ← c .before .taken-by .ensures) (c .state-heard .ensures)
 
 enum-known-refusal : tie.Need-enum-known-refusal
 enum-known-refusal c = search needs
@@ -54,7 +54,7 @@ hear-state-spec =
     frame-admitted-requires
     enum-told
     counted-at-requires
-    told-by-requires
+    taken-by-requires
     state-heard-requires
     returns
     enum-known-refusal

@@ -86,4 +86,5 @@ command-of-spec =
     (λ c. rw (c .before .before .match .keys22, c .low166 .ensures, c .before .low165 .ensures))
     (λ c. rw (c .before .match .keys23, c .low167 .ensures))
     (λ c. rw (c .before .match .keys24, c .low168 .ensures))
+    (λ c. rw (c .match .keys25))
     (λ c. rw (no-row (Unit {0}) (commandRows _) _ _ (c .match .rest))))

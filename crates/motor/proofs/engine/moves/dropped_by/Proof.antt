@@ -12,6 +12,9 @@ enum-known-wait c = search needs
 enum-told-2 : tie.Need-enum-told-2
 enum-told-2 c = search needs
 
+enum-told-3 : tie.Need-enum-told-3
+enum-told-3 c = search needs
+
 returns : tie.Need-returns
 returns c = search needs
 
@@ -21,6 +24,9 @@ returns-2 c = rw (c .before .wait .given .1)
 returns-3 : tie.Need-returns-3
 returns-3 c = search needs
 
+returns-4 : tie.Need-returns-4
+returns-4 c = search needs
+
 pub dropped-by-spec : {M : Type 1} → statement M
 dropped-by-spec =
-    tie.close (tie.spec enum-told enum-known-wait enum-told-2 returns returns-2 returns-3)
+    tie.close (tie.spec enum-told enum-known-wait enum-told-2 enum-told-3 returns returns-2 returns-3 returns-4)

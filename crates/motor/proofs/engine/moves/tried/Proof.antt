@@ -18,8 +18,13 @@ mark-of-requires c κs = search needs
 dropped-by-requires : tie.Need-dropped-by-requires
 dropped-by-requires c κs = search needs
 
+no-version-requires : tie.Need-no-version-requires
+no-version-requires c κs = search needs
+
 returns : tie.Need-returns
-returns c = rw (c .dropped-by .ensures, c .before .mark-of .ensures, c .before .before .request-frame .ensures, c .before .before .before .request-of .ensures)
+returns c =
+    let k = c .before in
+    rw (c .no-version .ensures, k .dropped-by .ensures, k .before .mark-of .ensures, k .before .before .request-frame .ensures, k .before .before .before .request-of .ensures)
 
 pub tried-spec : {M : Type 1} → statement M
 tried-spec =
@@ -30,4 +35,5 @@ tried-spec =
     request-frame-requires
     mark-of-requires
     dropped-by-requires
+    no-version-requires
     returns)

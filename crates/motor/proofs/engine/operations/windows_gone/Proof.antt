@@ -21,6 +21,12 @@ enum-told c = search needs
 failed-by-silence-requires : tie.Need-failed-by-silence-requires
 failed-by-silence-requires c κs = search needs
 
+enum-told-2 : tie.Need-enum-told-2
+enum-told-2 c = search needs
+
+failed-by-silence-requires-2 : tie.Need-failed-by-silence-requires-2
+failed-by-silence-requires-2 c κs = search needs
+
 returns : tie.Need-returns
 returns c = rw (c .before .before .wait .given .1) (c .not-acked .ensures)
 
@@ -29,6 +35,9 @@ returns-2 c = rw (c .before .before .wait2 .given .1) (c .no-value .ensures)
 
 returns-3 : tie.Need-returns-3
 returns-3 c = search needs
+
+returns-4 : tie.Need-returns-4
+returns-4 c = search needs
 
 pub windows-gone-spec : {M : Type 1} → statement M
 windows-gone-spec =
@@ -40,6 +49,9 @@ windows-gone-spec =
     no-value-requires
     enum-told
     failed-by-silence-requires
+    enum-told-2
+    failed-by-silence-requires-2
     returns
     returns-2
-    returns-3)
+    returns-3
+    returns-4)

@@ -45,6 +45,12 @@ enum-known-request-4 c = search needs
 protocol-payload-requires : tie.Need-protocol-payload-requires
 protocol-payload-requires c κs = search needs
 
+enum-told-7 : tie.Need-enum-told-7
+enum-told-7 c = search needs
+
+encode-version-request-requires : tie.Need-encode-version-request-requires
+encode-version-request-requires c κs = search needs
+
 returns : tie.Need-returns
 returns c = search needs
 
@@ -75,6 +81,9 @@ returns-9 c = rw (c .before .before .request3 .given .1, c .switch .ensures)
 returns-10 : tie.Need-returns-10
 returns-10 c = rw (c .before .before .request4 .given .1) (c .protocol-payload .ensures)
 
+returns-11 : tie.Need-returns-11
+returns-11 c = rw (c .before .enum-told7 .given .1) (c .encode-version-request .ensures)
+
 pub request-payload-spec : {M : Type 1} → statement M
 request-payload-spec =
     tie.close
@@ -93,6 +102,8 @@ request-payload-spec =
     switch-requires
     enum-known-request-4
     protocol-payload-requires
+    enum-told-7
+    encode-version-request-requires
     returns
     returns-2
     returns-3
@@ -102,4 +113,5 @@ request-payload-spec =
     returns-7
     returns-8
     returns-9
-    returns-10)
+    returns-10
+    returns-11)
