@@ -51,32 +51,37 @@ put-gains-requires c κs = search needs
 put-running-requires : tie.Need-put-running-requires
 put-running-requires c κs = search needs
 
+put-held-version-requires : tie.Need-put-held-version-requires
+put-held-version-requires c κs = search needs
+
 same-length : tie.Need-same-length
 same-length c =
     let p1 = c .before .before in
-    let p2 = p1 .before .before .before .before .before in
+    let p2 = p1 .before .before .before .before in
     let p3 = p2 .before .before .before .before .before in
-    let p4 = p3 .before .before .before .before .before in
-    let p5 = p4 .before .before .before .before in
+    let p4 = p3 .before .before .before .before .before .before in
+    let p5 = p4 .before .before .before .before .before in
     let p6 = p5 .before .before .before .before in
-    let p7 = p6 .before .before .before .before .before .before .before in
-    let p8 = p7 .before .before .before .before .before .before in
+    let p7 = p6 .before .before .before .before in
+    let p8 = p7 .before .before .before .before .before .before .before in
     let p9 = p8 .before .before .before .before .before .before in
-    p1 .put-running .ensures .same ∙ p2 .put-gains .ensures .same ∙ p3 .put-held-ping .ensures .same ∙ p4 .put-fault .ensures .same ∙ p5 .put-feedback .ensures .same ∙ p6 .put-line3 .ensures .same ∙ p7 .put-line2 .ensures .same ∙ p8 .put-line .ensures .same ∙ p9 .put-motor .ensures .same
+    let p10 = p9 .before .before .before .before .before .before in
+    p1 .put-running .ensures .same ∙ p2 .put-gains .ensures .same ∙ p3 .put-held-version .ensures .same ∙ p4 .put-held-ping .ensures .same ∙ p5 .put-fault .ensures .same ∙ p6 .put-feedback .ensures .same ∙ p7 .put-line3 .ensures .same ∙ p8 .put-line2 .ensures .same ∙ p9 .put-line .ensures .same ∙ p10 .put-motor .ensures .same
 
 returns : tie.Need-returns
 unfolding stateText
 returns c =
     let p1 = c .before .before in
-    let p2 = p1 .before .before .before .before .before in
+    let p2 = p1 .before .before .before .before in
     let p3 = p2 .before .before .before .before .before in
-    let p4 = p3 .before .before .before .before .before in
-    let p5 = p4 .before .before .before .before in
+    let p4 = p3 .before .before .before .before .before .before in
+    let p5 = p4 .before .before .before .before .before in
     let p6 = p5 .before .before .before .before in
-    let p7 = p6 .before .before .before .before .before .before .before in
-    let p8 = p7 .before .before .before .before .before .before in
+    let p7 = p6 .before .before .before .before in
+    let p8 = p7 .before .before .before .before .before .before .before in
     let p9 = p8 .before .before .before .before .before .before in
-    put-then (put-then (put-then (put-then (put-then (put-then (put-then (put-then (p9 .put-motor .ensures) (p8 .put-line .ensures)) (p7 .put-line2 .ensures)) (p6 .put-line3 .ensures)) (p5 .put-feedback .ensures)) (p4 .put-fault .ensures)) (p3 .put-held-ping .ensures)) (p2 .put-gains .ensures)) (p1 .put-running .ensures)
+    let p10 = p9 .before .before .before .before .before .before in
+    put-then (put-then (put-then (put-then (put-then (put-then (put-then (put-then (put-then (p10 .put-motor .ensures) (p9 .put-line .ensures)) (p8 .put-line2 .ensures)) (p7 .put-line3 .ensures)) (p6 .put-feedback .ensures)) (p5 .put-fault .ensures)) (p4 .put-held-ping .ensures)) (p3 .put-held-version .ensures)) (p2 .put-gains .ensures)) (p1 .put-running .ensures)
 
 pub put-state-spec : {M : Type 1} → statement M
 put-state-spec =
@@ -95,6 +100,7 @@ put-state-spec =
     put-feedback-requires
     put-fault-requires
     put-held-ping-requires
+    put-held-version-requires
     put-gains-requires
     put-running-requires
     same-length

@@ -2,7 +2,7 @@
 use mir.Facts.{toZ-ofZ}
 use mir.Syntax.{w8}
 use Rattle.text.proofs.Putting.{put-then}
-use Rattle.answers.specs.Said.{outcomeText}
+use Rattle.answers.specs.Said.{versionText, outcomeText}
 use borrow.Author.Needs.{needs}
 use Rattle.answers.proofs.said.put_outcome.Statement.{statement}
 use Rattle.answers.proofs.said.put_outcome.Tie as tie
@@ -88,6 +88,24 @@ put-bytes-requires-4 c κs = search needs
 put-signed-requires : tie.Need-put-signed-requires
 put-signed-requires c κs = search needs
 
+enum-known-outcome-7 : tie.Need-enum-known-outcome-7
+enum-known-outcome-7 c = search needs
+
+array-read-put-version : tie.Need-array-read-put-version
+array-read-put-version c = search needs
+
+array-read-put-version-2 : tie.Need-array-read-put-version-2
+array-read-put-version-2 c = search needs
+
+array-read-put-version-3 : tie.Need-array-read-put-version-3
+array-read-put-version-3 c = search needs
+
+array-read-put-version-4 : tie.Need-array-read-put-version-4
+array-read-put-version-4 c = search needs
+
+put-version-requires : tie.Need-put-version-requires
+put-version-requires c κs = search needs
+
 same-length : tie.Need-same-length
 same-length c = search needs
 
@@ -148,6 +166,13 @@ returns-7 c =
     let p4 = p3 .before in
     rw (p4 .outcome6 .given .1) (put-then (p2 .put-bytes4 .ensures) (rw (toZ-ofZ {w = w8} {z = p4 .outcome6 .given .0 .0} (record { sfits = p3 .known-told6 .given .0 .1 })) at (p1 .put-signed .ensures)))
 
+same-length-8 : tie.Need-same-length-8
+same-length-8 c = search needs
+
+returns-8 : tie.Need-returns-8
+unfolding outcomeText versionText
+returns-8 c = rw (c .before .before .before .before .before .outcome7 .given .1) (c .before .before .put-version .ensures)
+
 pub put-outcome-spec : {M : Type 1} → statement M
 put-outcome-spec =
     tie.close
@@ -179,6 +204,12 @@ put-outcome-spec =
     slice-aggregate-put-bytes-4
     put-bytes-requires-4
     put-signed-requires
+    enum-known-outcome-7
+    array-read-put-version
+    array-read-put-version-2
+    array-read-put-version-3
+    array-read-put-version-4
+    put-version-requires
     same-length
     returns
     same-length-2
@@ -192,4 +223,6 @@ put-outcome-spec =
     same-length-6
     returns-6
     same-length-7
-    returns-7)
+    returns-7
+    same-length-8
+    returns-8)
