@@ -2,12 +2,14 @@
 
 from __future__ import annotations
 
-from combradish import PARAMETERS, Command, Finished, Kind, Mode, Refusal, Value, Word, kind_of, value
+from combradish import PARAMETERS, Command, Finished, Kind, Mode, Refusal, Value, VersionReply, Word, kind_of, value
 from combradish.answers import result_text
 from combradish.held import STATUS_FLAGS
 
 ACCEPTED = (0, 2, 17, 21, 24, 25)
 READ, WRITE = 17, 18
+VERSION_REQUEST = bytes((0, 0xC4, 0, 0, 0, 0, 0, 0))
+VERSION_REPLY = bytes((0x00, 0xC4, 0x56))
 ANGLE = 0x7019
 UNITS = {0x7016: "rad", ANGLE: "rad", 0x700A: "rad/s", 0x7017: "rad/s", 0x701B: "rad/s", 0x7024: "rad/s", 0x701C: "V"}
 
@@ -51,6 +53,8 @@ def sent_label(id: int, data: bytes, host: int) -> str:
     fixed = {0: "ping", 1: "motion", 3: "enable", 6: "set zero", 22: "save"}
     if kind in fixed:
         text = fixed[kind]
+    elif kind == 4 and data == VERSION_REQUEST:
+        text = "version?"
     elif kind == 4:
         text = "clear error" if data[0] == 1 else "disable"
     elif kind == 7:
@@ -67,8 +71,8 @@ def sent_label(id: int, data: bytes, host: int) -> str:
     return text if kind == 1 or used == host else f"{text} (host {used:02X})"
 
 
-def heard_label(id: int, data: bytes, extended: bool = True) -> str:
-    """What a frame that was heard says."""
+def heard_label(id: int, data: bytes, extended: bool = True, asked: bool = False) -> str:
+    """What a frame that was heard says. A version reply is one where a version was asked for, else a status."""
     kind = frame_type(id)
     if not extended:
         return f"standard {id:03X}"
@@ -76,10 +80,17 @@ def heard_label(id: int, data: bytes, extended: bool = True) -> str:
         status = id >> 16 & 0xFF
         said = number_text(value_of(data).number)
         return f"{parameter_of(data):04X} = {said}" if status == 0 else f"{parameter_of(data):04X} status {status:02X}"
+    if kind == 2 and asked and data.startswith(VERSION_REPLY):
+        return version_text(data.ljust(7, b"\0")[3:7])
     if kind in (2, 24):
         flags = [name for bit, name in enumerate(STATUS_FLAGS) if id >> 16 + bit & 1]
         return ", ".join([{2: "status", 24: "report"}[kind], *flags])
     return {0: "ping reply", 21: "fault report", 25: "protocol reply"}.get(kind, f"type {kind}")
+
+
+def version_text(version: bytes) -> str:
+    """version 0.3.1.7"""
+    return "version " + ".".join(str(byte) for byte in version)
 
 
 def command_label(command: Command) -> str:
@@ -114,6 +125,8 @@ def result_label(answer: Finished) -> str:
     if isinstance(answer.result, Value):
         suffix = "" if answer.result.kind is Kind.F32 else f" ({answer.result.kind.value})"
         return number_text(answer.result.number) + suffix
+    if isinstance(answer.result, VersionReply):
+        return version_text(answer.result.version)
     return result_text(answer.result)
 
 

@@ -226,7 +226,8 @@ class Story:
         number = int(answer.refusal.number) if isinstance(answer, Refused) else 0
         motor = extra_low(id) if extended and frame_type(id) in ACCEPTED else 0
         lane = self.panel.lane(0 if number == Reason.FRAME_NOT_ACCEPTED else motor)
-        label = heard_label(id, data, extended)
+        bar = lane.running()
+        label = heard_label(id, data, extended, bar is not None and bar.name == "get_version")
         if lane.id == 0 and motor:
             label += f" of {motor}"
         if number != Reason.TIME_OUT_OF_ORDER:

@@ -21,7 +21,7 @@ sys.path.insert(0, str(Path(__file__).resolve().parents[1]))
 
 from combradish import (  # noqa: E402
     COMMANDS, Command, Died, Error, Finished, Frame, Held, Kind, Mode, Ok, Reading, Reason, Refusal, Refused, Sent, Station,
-    TimedOut, Unexpected, Value, Waiting, Word, parse_event, program_of, read_answer, value, word,
+    TimedOut, Unexpected, Value, VersionReply, Waiting, Word, parse_event, program_of, read_answer, value, word,
 )  # fmt: skip
 from combradish.shapes import parts  # noqa: E402
 
@@ -139,6 +139,24 @@ class Incident(unittest.TestCase):
             self.assertIsInstance(station.say("register"), Error)
             self.assertIsNone(station.say(""))
             self.assertEqual(station.fresh(), Ok())
+
+
+class Version(unittest.TestCase):
+    def test_a_version_is_no_status(self) -> None:
+        """Asked twice: while it waits a look shows the answer so far, the later one counts, and no feedback comes of it."""
+        with Station(REPLAY) as station:
+            station.register(6, 0xFD, "rs-00", 0, 100)
+            asked = station.start(6, 100, Command.get_version())
+            self.assertEqual(asked, Sent(Frame.at(100, 0x0400FD06, bytes.fromhex("00C4000000000000")), 340))
+            for time, version in ((120, "00030106"), (400, "00030206")):
+                self.assertEqual(station.heard(Frame.at(time, 0x020006FD, bytes.fromhex(f"00C456{version}00"))), Ok())
+                held = station.look(6)
+                assert isinstance(held, Held)
+                self.assertEqual(held.version, VersionReply(6, bytes.fromhex(version)))
+            self.assertEqual(station.step(6, 401), Finished(VersionReply(6, bytes((0, 3, 2, 6)))))
+            held = station.look(6)
+            assert isinstance(held, Held)
+            self.assertEqual((held.version, held.feedback, held.sequence, held.responses), (None, None, 0, 2))
 
 
 class Death(unittest.TestCase):

@@ -40,7 +40,7 @@ pub enum Form {
 }
 
 /// The first words of a look's lines before its `end`.
-const INSIDE: [&str; 10] = [
+const INSIDE: [&str; 11] = [
     "motor",
     "clock",
     "responses",
@@ -48,13 +48,14 @@ const INSIDE: [&str; 10] = [
     "feedback",
     "fault",
     "ping",
+    "version",
     "gains",
     "running",
     "reading",
 ];
 
-/// The lines of a look at most: nine, 96 readings and `end`.
-const LONGEST: usize = 106;
+/// The lines of a look at most: ten, 96 readings and `end`.
+const LONGEST: usize = 107;
 
 impl Event {
     pub fn form(&self) -> Form {

@@ -4,7 +4,7 @@ mod common;
 
 use combradish_client::{
     Command, Frame, Heard, HeardId, Model, Outcome, Recording, Refusal, Said, SentFrame, Stamp,
-    Station, Taken,
+    Station, Taken, Version,
 };
 use common::{program, scratch};
 use std::fs::{self, File};
@@ -72,4 +72,39 @@ fn each_call() {
     assert_eq!(gone, Err(Refusal::IdNotRegistered));
     station.finish().expect("a good end");
     assert_eq!(fs::read_to_string(session).expect("the session"), SESSION);
+}
+
+/// A version is asked once, and its reply is no status.
+#[test]
+fn a_version() {
+    let mut station = Station::open(&program(), Recording::none()).expect("replay starts");
+    let model = Model::new("rs-00").expect("a name");
+    let registered = station.register(6, 0xFD, model, 0, 100);
+    assert_eq!(registered.expect("an answer"), Taken::Ok);
+    let reply = station.start(6, 100, Command::GetVersion);
+    let reply = reply.expect("an answer");
+    let data = [0, 0xC4, 0, 0, 0, 0, 0, 0];
+    let frame = SentFrame {
+        time: 100,
+        id: 0x0400_FD06,
+        data,
+    };
+    assert_eq!(reply.frame, Some(frame));
+    let own = Version {
+        device: 6,
+        version: [0, 3, 1, 6],
+    };
+    let id = HeardId::extended(0x0200_06FD).expect("an id");
+    let data = [0x00, 0xC4, 0x56, 0, 3, 1, 6, 0];
+    let heard = Heard::new(Stamp::at_millis(120), id, data.into());
+    assert_eq!(station.heard(heard).expect("an answer"), Taken::Ok);
+    let held = station.look(6).expect("an answer").result();
+    let held = held.expect("motor 6 is held");
+    assert_eq!((held.version, held.feedback), (Some(own), None));
+    let reply = station.step(6, 900).expect("an answer");
+    assert_eq!(reply.said, Said::Finished(Outcome::Version(own)));
+    let held = station.look(6).expect("an answer").result();
+    let held = held.expect("motor 6 is held");
+    assert_eq!((held.version, held.responses, held.sequence), (None, 1, 0));
+    station.finish().expect("a good end");
 }

@@ -6,6 +6,7 @@ mod events;
 mod lines;
 mod looks;
 mod runs;
+mod versions;
 
 use crate::compare::{self, Text};
 use crate::make::make;
@@ -58,7 +59,13 @@ struct Memory {
 }
 
 fn all() -> impl Iterator<Item = &'static Mutant> {
-    let tables = [events::ALL, answers::ALL, looks::ALL, runs::ALL];
+    let tables = [
+        events::ALL,
+        answers::ALL,
+        looks::ALL,
+        runs::ALL,
+        versions::ALL,
+    ];
     tables.into_iter().flatten()
 }
 

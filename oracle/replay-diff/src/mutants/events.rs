@@ -103,15 +103,6 @@ pub const ALL: &[Mutant] = &[
         |event| retyped(event, 21, 25),
     ),
     event(
-        "version",
-        "doesn't take a status that begins 00 C4 56 for feedback",
-        |event| {
-            frame_not(event, Taken::Unheard, |frame| {
-                kind_of(frame.id) == 2 && frame.data.starts_with(&[0x00, 0xC4, 0x56])
-            })
-        },
-    ),
-    event(
         "unlisted replies",
         "passes over replies for parameters that aren't listed",
         |event| {
