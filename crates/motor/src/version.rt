@@ -12,6 +12,7 @@ use codec::replies::is_version_reply;
 ghost use mathlib.Core.Path.{_≡_};
 ghost use Rattle.motor.specs.Receive.{isVersionWait, awaitsVersion, isAnswer, versionIn, withAnswer, answerTaken, takenBy};
 
+// Whether a wait is get_version's.
 fn is_version_wait(wait: Wait) -> bool
     ensures { λ r. ⌜ r ≡ isVersionWait wait ⌝ }
 {
