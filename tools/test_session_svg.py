@@ -122,11 +122,11 @@ class Odd(unittest.TestCase):
         self.assertIn('<jam> & "more"', ["".join(text.itertext()) for text in root.iter(f"{SVG}text")])
 
     def test_versions(self) -> None:
-        """A version reply is one where it was asked for, and a status elsewhere."""
+        """A version reply is one where it was asked for, and elsewhere taken for a status."""
         reply = "can0 020001FD#00C4560102030400\n"
         session = f"register 1 0xFD rs-00 0 5\n(0.010000) {reply}start 1 20 get_version\n(0.040000) {reply}step 1 50\n"
         said = ["".join(text.itertext()) for text in self.draw(session).iter(f"{SVG}text")]
-        for label in ("status", "version?", "version 1.2.3.4", "get_version \u2192 version 1.2.3.4"):
+        for label in ("status (version 1.2.3.4)", "version?", "version 1.2.3.4", "get_version \u2192 version 1.2.3.4"):
             self.assertIn(label, said)
         self.assertNotIn("disable", said)
 

@@ -72,7 +72,7 @@ def sent_label(id: int, data: bytes, host: int) -> str:
 
 
 def heard_label(id: int, data: bytes, extended: bool = True, asked: bool = False) -> str:
-    """What a frame that was heard says. A version reply is one where a version was asked for, else a status."""
+    """What a frame that was heard says. A version reply is one where a version was asked for, else it is taken for a status."""
     kind = frame_type(id)
     if not extended:
         return f"standard {id:03X}"
@@ -80,8 +80,9 @@ def heard_label(id: int, data: bytes, extended: bool = True, asked: bool = False
         status = id >> 16 & 0xFF
         said = number_text(value_of(data).number)
         return f"{parameter_of(data):04X} = {said}" if status == 0 else f"{parameter_of(data):04X} status {status:02X}"
-    if kind == 2 and asked and data.startswith(VERSION_REPLY):
-        return version_text(data.ljust(7, b"\0")[3:7])
+    if kind == 2 and data.startswith(VERSION_REPLY):
+        version = version_text(data.ljust(7, b"\0")[3:7])
+        return version if asked else f"status ({version})"
     if kind in (2, 24):
         flags = [name for bit, name in enumerate(STATUS_FLAGS) if id >> 16 + bit & 1]
         return ", ".join([{2: "status", 24: "report"}[kind], *flags])
