@@ -1,7 +1,7 @@
 // A frame of the CAN bus, and the numbers that stand in its payload.
 ghost use Rattle.std.specs.Prelude.{◌≡◌, ◌+◌, ◌*◌};
 
-#[derive(Drop)]
+#[derive(Clone, Copy)]
 pub struct CanFrame {
     pub arbitration_id: u32,
     pub data: [u8; 8],

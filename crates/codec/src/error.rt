@@ -3,14 +3,14 @@ ghost use Rattle.std.specs.Prelude.{◌≡◌};
 ghost use Rattle.codec.specs.Refusals.{number_of};
 
 // The last run_mode read after a mode write, which 18 gives.
-#[derive(Drop)]
+#[derive(Clone, Copy)]
 pub enum LastMode {
     Unread,
     Read(i8),
 }
 
 // A case for each number, in the table's order. 14 and 18 carry values, the others none.
-#[derive(Drop)]
+#[derive(Clone, Copy)]
 pub enum Refusal {
     MotorIdOutOfRange,
     HostIdOutOfRange,
@@ -38,7 +38,7 @@ pub enum Refusal {
 }
 
 // The answer of a test: passed, or the refusal.
-#[derive(Drop)]
+#[derive(Clone, Copy)]
 pub enum Checked {
     Passed,
     Refused(Refusal),

@@ -4,7 +4,7 @@ ghost use Rattle.codec.specs.Faults.{fault_flags, warning_flags, decode_fault_re
 
 use crate::bus::join32;
 
-#[derive(Drop)]
+#[derive(Clone, Copy)]
 pub struct FaultFlags {
     pub phase_a_overcurrent: bool,
     pub stall_overload: bool,
@@ -19,12 +19,12 @@ pub struct FaultFlags {
     pub overtemperature: bool,
 }
 
-#[derive(Drop)]
+#[derive(Clone, Copy)]
 pub struct WarningFlags {
     pub overtemperature_warning: bool,
 }
 
-#[derive(Drop)]
+#[derive(Clone, Copy)]
 pub struct FaultReport {
     pub fault_raw: u32,
     pub warning_raw: u32,

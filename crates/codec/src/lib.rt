@@ -1,6 +1,8 @@
 // The codec of the RobStride protocol: frame ids, parameters, motion and status values, faults and
 // replies, as pure functions on values. No function asks anything of its caller, and each promises
 // its whole result by a definition of specs/.
+#![tactic(auto)]
+
 pub mod bus;
 pub mod error;
 pub mod faults;

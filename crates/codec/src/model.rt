@@ -4,7 +4,7 @@ ghost use Rattle.codec.specs.Models.{same_bytes, model_named, limits_to, limits_
 
 use crate::error::Refusal;
 
-#[derive(Drop)]
+#[derive(Clone, Copy)]
 pub enum Model {
     Rs00,
     Rs01,
@@ -17,7 +17,7 @@ pub enum Model {
 }
 
 // The largest position, velocity and torque either way, and the largest gains.
-#[derive(Drop)]
+#[derive(Clone, Copy)]
 pub struct Limits {
     pub position: f32,
     pub velocity: f32,
@@ -26,13 +26,13 @@ pub struct Limits {
     pub kd: f32,
 }
 
-#[derive(Drop)]
+#[derive(Clone, Copy)]
 pub enum ModelNamed {
     Known(Model),
     Unknown,
 }
 
-#[derive(Drop)]
+#[derive(Clone, Copy)]
 pub enum ModelLimits {
     Known(Limits),
     Refused(Refusal),

@@ -7,7 +7,7 @@ ghost use Rattle.codec.specs.Motion.{clamp, motion_raw, gain_raw, raw_payload, e
 use crate::model::Limits;
 
 // A motion command: the extra field and the payload of its frame.
-#[derive(Drop)]
+#[derive(Clone, Copy)]
 pub struct MitCommand {
     pub extra_data: u16,
     pub payload: [u8; 8],

@@ -13,7 +13,7 @@ use crate::registers::{ParameterDataType, ParameterInfo, kind_number, parameter_
 use crate::word::{Word, byte_of, signed_of};
 
 // The type of a frame: the five bits at the top of its id.
-#[derive(Drop)]
+#[derive(Clone, Copy)]
 pub struct CommunicationType;
 
 impl CommunicationType {
@@ -77,7 +77,7 @@ pub fn protocol_name(protocol_cmd: u8) -> Name
 }
 
 // A payload, or zeros beside the refusal.
-#[derive(Drop)]
+#[derive(Clone, Copy)]
 pub struct SetProtocol {
     pub said: Checked,
     pub payload: [u8; 8],
@@ -103,7 +103,7 @@ pub fn encode_set_protocol(protocol_cmd: u8) -> SetProtocol
 // ---- ids
 
 // The three parts of a frame's id.
-#[derive(Drop)]
+#[derive(Clone, Copy)]
 pub struct IdParts {
     pub comm_type: u32,
     pub extra_data: u16,
@@ -131,7 +131,7 @@ pub fn ext_id_parts(arbitration_id: u32) -> IdParts
 // ---- parameters
 
 // A parameter's value, by its kind.
-#[derive(Drop)]
+#[derive(Clone, Copy)]
 pub enum ParameterValue {
     I8(i8),
     U8(u8),
@@ -197,7 +197,7 @@ pub fn decode_read_parameter_value(param_id: u16, payload: [u8; 8]) -> Parameter
 }
 
 // What encoding a value answers: its four raw bytes as one number, low byte first, or the refusal.
-#[derive(Drop)]
+#[derive(Clone, Copy)]
 pub enum EncodedValue {
     Raw(u32),
     Refused(Refusal),

@@ -5,7 +5,7 @@ ghost use Rattle.codec.specs.Modes.{control_mode_from_raw, control_mode_number};
 
 use crate::error::Refusal;
 
-#[derive(Drop)]
+#[derive(Clone, Copy)]
 pub enum ParameterDataType {
     Int8,
     UInt8,
@@ -15,14 +15,14 @@ pub enum ParameterDataType {
 }
 
 // What is known of a parameter id: the Rust's `Option<&ParameterInfo>`, without the name, which `parameter_name` gives.
-#[derive(Drop)]
+#[derive(Clone, Copy)]
 pub enum ParameterInfo {
     Listed(ParameterDataType),
     Unlisted,
 }
 
 // The ids that the Rust names, by its names and in its order.
-#[derive(Drop)]
+#[derive(Clone, Copy)]
 pub struct ParameterId;
 
 impl ParameterId {
@@ -154,7 +154,7 @@ pub fn parameter_info(id: u16) -> ParameterInfo
     ParameterInfo::Unlisted
 }
 
-#[derive(Drop)]
+#[derive(Clone, Copy)]
 pub enum ControlMode {
     Mit,
     Position,
@@ -162,7 +162,7 @@ pub enum ControlMode {
     PositionCsp,
 }
 
-#[derive(Drop)]
+#[derive(Clone, Copy)]
 pub enum ModeRead {
     Mode(ControlMode),
     Refused(Refusal),

@@ -5,7 +5,7 @@ ghost use Rattle.codec.specs.Replies.{encode_version_request, is_version_reply, 
 use crate::error::{Checked, Refusal};
 use crate::protocol::{CommunicationType, IdParts, ext_id_parts};
 
-#[derive(Drop)]
+#[derive(Clone, Copy)]
 pub struct PingReply {
     pub device_id: u8,
     pub responder_id: u8,
@@ -13,20 +13,20 @@ pub struct PingReply {
 }
 
 // A ping reply, or one of zeros beside the refusal.
-#[derive(Drop)]
+#[derive(Clone, Copy)]
 pub struct PingAnswer {
     pub said: Checked,
     pub reply: PingReply,
 }
 
-#[derive(Drop)]
+#[derive(Clone, Copy)]
 pub struct VersionReply {
     pub device_id: u8,
     pub version: [u8; 4],
 }
 
 // A version reply, or one of zeros beside the refusal.
-#[derive(Drop)]
+#[derive(Clone, Copy)]
 pub struct VersionAnswer {
     pub said: Checked,
     pub reply: VersionReply,

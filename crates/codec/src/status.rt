@@ -6,7 +6,7 @@ ghost use Rattle.codec.specs.Status.{status_value, temperature_of, status_flags,
 use crate::bus::join16;
 use crate::model::Limits;
 
-#[derive(Drop)]
+#[derive(Clone, Copy)]
 pub struct StatusFlags {
     pub mode_state: u8,
     pub uncalibrated: bool,
@@ -18,7 +18,7 @@ pub struct StatusFlags {
     pub device_id: u8,
 }
 
-#[derive(Drop)]
+#[derive(Clone, Copy)]
 pub struct StatusFrame {
     pub flags: StatusFlags,
     pub position: f32,

@@ -5,7 +5,7 @@ ghost use Rattle.std.specs.Int.{w8};
 ghost use Rattle.std.proofs.Common.{of_z, to_z};
 ghost use Rattle.codec.specs.Words.{value_of, word_of};
 
-#[derive(Drop)]
+#[derive(Clone, Copy)]
 pub struct Word {
     pub bits: u32,
 }

@@ -14,7 +14,7 @@ use codec::error::{Checked, Refusal};
 use codec::protocol::{IdParts, ext_id_parts};
 
 // What is to be stored of the readings: record `first` is `one`; then record `second` goes on to `link`; `free` is the first free record.
-#[derive(Drop)]
+#[derive(Clone, Copy)]
 pub struct Edit {
     pub first: usize,
     pub one: Reading,
@@ -24,14 +24,14 @@ pub struct Edit {
 }
 
 // What a put answers, and what it stores.
-#[derive(Drop)]
+#[derive(Clone, Copy)]
 pub struct PutEdit {
     pub said: PutAnswer,
     pub edit: Edit,
 }
 
 // What a frame answers, the state after it, and what it stores of the readings.
-#[derive(Drop)]
+#[derive(Clone, Copy)]
 pub struct ReadHeard {
     pub state: State,
     pub edit: Edit,

@@ -8,7 +8,7 @@ use codec::protocol::IdParts;
 use codec::status::decode_status_frame;
 
 // A state, as a status frame tells it, with the whole id of its frame.
-#[derive(Drop)]
+#[derive(Clone, Copy)]
 pub struct MotorFeedbackState {
     pub arbitration_id: u32,
     pub device_id: u8,
@@ -25,14 +25,14 @@ pub struct MotorFeedbackState {
     pub undervoltage: bool,
 }
 
-#[derive(Drop)]
+#[derive(Clone, Copy)]
 pub enum Latest {
     Nothing,
     State(MotorFeedbackState),
 }
 
 // The latest state, and the sequence: a number that rises with each and stays at its maximum.
-#[derive(Drop)]
+#[derive(Clone, Copy)]
 pub struct FeedbackCache {
     pub latest: Latest,
     pub sequence: u64,

@@ -1,5 +1,7 @@
 // One motor: what it has heard, and the operations that it runs in steps. State goes in by value and comes back beside the
 // answer. No public function asks anything of its caller; each promises its whole result.
+#![tactic(auto)]
+
 mod arguments;
 pub mod edits;
 mod effects;

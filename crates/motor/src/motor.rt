@@ -25,7 +25,7 @@ use codec::faults::FaultReport;
 use codec::model::Model;
 use codec::word::Word;
 
-#[derive(Drop)]
+#[derive(Clone, Copy)]
 pub enum HeldFault {
     Nothing,
     Report(FaultReport),
@@ -33,7 +33,7 @@ pub enum HeldFault {
 
 // All that a motor holds but its readings. As registered: id, host, model and write wait. Then clock, response count, feedback
 // with its sequence, gains, fault report, ping reply, and the running operation with its command.
-#[derive(Drop)]
+#[derive(Clone, Copy)]
 pub struct State {
     pub motor_id: u16,
     pub feedback_id: u16,
@@ -49,14 +49,14 @@ pub struct State {
     pub command: Command,
 }
 
-#[derive(Drop)]
+#[derive(Clone, Copy)]
 pub struct Motor {
     pub state: State,
     pub readings: Readings,
 }
 
 // What a start or a step answers, and the motor after it.
-#[derive(Drop)]
+#[derive(Clone, Copy)]
 pub struct Answered {
     pub motor: Motor,
     pub said: Said,
@@ -65,7 +65,7 @@ pub struct Answered {
 }
 
 // All held, the readings along the chain.
-#[derive(Drop)]
+#[derive(Clone, Copy)]
 pub struct Seen {
     pub state: State,
     pub readings: Listing,

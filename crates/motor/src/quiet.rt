@@ -10,7 +10,7 @@ use codec::error::Checked;
 use codec::protocol::{IdParts, ext_id_parts};
 
 // What such a frame answers, and the state after it.
-#[derive(Drop)]
+#[derive(Clone, Copy)]
 pub struct StateHeard {
     pub state: State,
     pub said: Checked,

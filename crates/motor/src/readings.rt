@@ -9,7 +9,7 @@ use crate::limits::{ENTRIES, READINGS, RECORDS};
 use codec::protocol::ParameterValue;
 
 // A record. The next of the last one is 0.
-#[derive(Drop)]
+#[derive(Clone, Copy)]
 pub struct Reading {
     pub id: u16,
     pub held: Stored,
@@ -17,33 +17,33 @@ pub struct Reading {
 }
 
 // Slot 0 is the head: its next is the first record held. A record's number is its index.
-#[derive(Drop)]
+#[derive(Clone, Copy)]
 pub struct Readings {
     pub records: [Reading; RECORDS],
     pub free: u16,
 }
 
 // Full is 15: 96 others are held and the id is new.
-#[derive(Drop)]
+#[derive(Clone, Copy)]
 pub enum PutAnswer {
     Kept,
     Full,
 }
 
-#[derive(Drop)]
+#[derive(Clone, Copy)]
 pub struct PutResult {
     pub said: PutAnswer,
     pub readings: Readings,
 }
 
-#[derive(Drop)]
+#[derive(Clone, Copy)]
 pub struct Entry {
     pub id: u16,
     pub held: Stored,
 }
 
 // What is held, along the chain; the entries past count are blank.
-#[derive(Drop)]
+#[derive(Clone, Copy)]
 pub struct Listing {
     pub count: u16,
     pub entries: [Entry; ENTRIES],
@@ -84,7 +84,7 @@ pub fn empty() -> Readings
 
 // The place of an id in the chain: the record before it, 0 for the head, where that one goes on, and the record there; the first
 // free record, and where it goes on; the head.
-#[derive(Drop)]
+#[derive(Clone, Copy)]
 pub(crate) struct Site {
     pub before: u16,
     pub next: u16,

@@ -23,7 +23,7 @@ use codec::protocol::{CommunicationType, IdParts, decode_read_parameter_value, e
 use codec::replies::ping_reply;
 
 // Where a frame comes from: the motor's id that it carries, whether a motor of that id accepts it, and whether it is a read reply.
-#[derive(Drop)]
+#[derive(Clone, Copy)]
 pub struct Arrival {
     pub source: u16,
     pub accepted: bool,
@@ -31,7 +31,7 @@ pub struct Arrival {
 }
 
 // What a frame answers, and the motor after it.
-#[derive(Drop)]
+#[derive(Clone, Copy)]
 pub struct Heard {
     pub motor: Motor,
     pub said: Checked,

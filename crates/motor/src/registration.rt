@@ -10,7 +10,7 @@ use codec::error::{Checked, Refusal};
 use codec::model::{Model, ModelNamed, model_named};
 
 // A registration's own tests: the model, or the first number that applies.
-#[derive(Drop)]
+#[derive(Clone, Copy)]
 pub enum Admission {
     Admitted(Model),
     Refused(Refusal),

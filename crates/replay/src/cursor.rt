@@ -6,7 +6,7 @@ use crate::limits::ROOM;
 
 // Where a line stands in the input, from its first byte to its LF, and where its answer goes. left falls from line to line: no
 // more of them where more is false. full is whether it is a line, and its answer may find no room.
-#[derive(Drop)]
+#[derive(Clone, Copy)]
 pub struct Cursor {
     pub from: usize,
     pub end: usize,

@@ -12,7 +12,7 @@ use station::station::new;
 
 // The bytes to be answered, from a place of the buffer up to n. got counts, round 2^64, all that were read. more is whether the
 // input goes on, good whether the read went well.
-#[derive(Drop)]
+#[derive(Clone, Copy)]
 pub struct Pending {
     pub from: usize,
     pub n: usize,
@@ -22,7 +22,7 @@ pub struct Pending {
 }
 
 // How many bytes were written in all, round 2^64, and whether every write went well.
-#[derive(Drop)]
+#[derive(Clone, Copy)]
 pub struct Wrote {
     pub total: usize,
     pub good: bool,
@@ -30,7 +30,7 @@ pub struct Wrote {
 
 // How many bytes were read and written, round 2^64. good is whether the input came to its end and every read and write went
 // well, failed whether one of them didn't; neither, where the turns are used up.
-#[derive(Drop)]
+#[derive(Clone, Copy)]
 pub struct Ran {
     pub got: usize,
     pub sent: usize,

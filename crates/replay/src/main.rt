@@ -1,4 +1,6 @@
 // Replay: reads a recorded session, hands each event to a station, and writes what the station answers.
+#![tactic(auto)]
+
 mod cursor;
 mod errors;
 mod limits;

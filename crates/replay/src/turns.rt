@@ -22,7 +22,7 @@ use station::limits::MOTORS;
 use station::station::{Looked, new};
 
 // The places after lines, and where the next line stands.
-#[derive(Drop)]
+#[derive(Clone, Copy)]
 pub struct Taken {
     pub motors: [Motor; MOTORS],
     pub cursor: Cursor,

@@ -10,13 +10,13 @@ use crate::table::{KINDS, MODES};
 use text::Num;
 
 // The numbers of the words, and how many words are as their letters say, up to the first that isn't.
-#[derive(Drop)]
+#[derive(Clone, Copy)]
 pub(crate) struct Args {
     pub v: [u64; 8],
     pub good: usize,
 }
 
-#[derive(Drop)]
+#[derive(Clone, Copy)]
 pub(crate) enum Fitting {
     Good,
     Bad(Reason),

@@ -7,7 +7,7 @@ use motor::engine::requests::no_frame;
 use station::call::Call;
 
 // Why a line isn't an event. Words are counted from 1; a letter says what a word is to be (see arguments).
-#[derive(Drop)]
+#[derive(Clone, Copy)]
 pub enum Reason {
     LineTooLong,
     NoSuchEvent,
@@ -26,7 +26,7 @@ pub enum Reason {
 }
 
 // What a line says besides calls: nothing, which is a blank line or a comment; no event; a fresh station.
-#[derive(Drop)]
+#[derive(Clone, Copy)]
 pub enum Other {
     Nothing,
     Error(Reason),
@@ -34,14 +34,14 @@ pub enum Other {
 }
 
 // A call on the station, or what a line says besides.
-#[derive(Drop)]
+#[derive(Clone, Copy)]
 pub enum Event {
     Call(Call),
     Other(Other),
 }
 
 // What a line says, and beside it the frame that is handed in; elsewhere the frame isn't looked at.
-#[derive(Drop)]
+#[derive(Clone, Copy)]
 pub struct Line {
     pub event: Event,
     pub frame: CanFrame,

@@ -1,4 +1,6 @@
 // The lines of a session (docs/REPLAY.md, the input): which event a line is, or why it is none.
+#![tactic(auto)]
+
 mod arguments;
 mod commands;
 pub mod event;

@@ -9,7 +9,7 @@ use motor::engine::command::{Command, Said};
 use motor::engine::requests::no_frame;
 
 // The six calls.
-#[derive(Drop)]
+#[derive(Clone, Copy)]
 pub enum Call {
     Register {
         id: u16,
@@ -40,14 +40,14 @@ pub enum Call {
 }
 
 // A call, and beside it the frame that is handed in; elsewhere the frame isn't looked at.
-#[derive(Drop)]
+#[derive(Clone, Copy)]
 pub struct Asked {
     pub call: Call,
     pub frame: CanFrame,
 }
 
 // What is answered: to a registration, a frame or a removal; to a start or a step; to a look, which shows all held beside it.
-#[derive(Drop)]
+#[derive(Clone, Copy)]
 pub enum Answer {
     Told(Checked),
     Moved(Said),
@@ -55,7 +55,7 @@ pub enum Answer {
 }
 
 // An answer, with a start's or a step's frame and result bytes.
-#[derive(Drop)]
+#[derive(Clone, Copy)]
 pub struct Replied {
     pub answer: Answer,
     pub frame: CanFrame,

@@ -19,20 +19,20 @@ use motor::receive::{Heard, arrival_of, process_feedback_frame};
 use motor::registration::{Admission, registration};
 
 // Eight places, each free or taken by a motor.
-#[derive(Drop)]
+#[derive(Clone, Copy)]
 pub struct Station {
     pub motors: [Motor; MOTORS],
 }
 
 // What a call other than a look replies, and the station after it.
-#[derive(Drop)]
+#[derive(Clone, Copy)]
 pub struct After {
     pub station: Station,
     pub replied: Replied,
 }
 
 // What a look answers: all that the motor holds; refused, what a free place holds.
-#[derive(Drop)]
+#[derive(Clone, Copy)]
 pub struct Looked {
     pub said: Checked,
     pub seen: Seen,

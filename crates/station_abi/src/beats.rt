@@ -12,7 +12,7 @@ use station::lent::call::call;
 use station::limits::MOTORS;
 
 // How many frames are left, how many were not refused, and what the next one is.
-#[derive(Drop)]
+#[derive(Clone, Copy)]
 pub struct Beat {
     pub left: u64,
     pub passed: u64,

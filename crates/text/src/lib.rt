@@ -1,4 +1,6 @@
 // Text as bytes: the words of a line, the numbers that they stand for, and text put into a buffer.
+#![tactic(auto)]
+
 mod fields;
 mod numbers;
 mod put;

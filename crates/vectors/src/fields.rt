@@ -7,7 +7,7 @@ ghost use Rattle.vectors.specs.Numbers.{replied, swapped, swapped4};
 use crate::requests::width;
 
 // The number of a refusal, 0 where there is none, and the numbers that an answer shows.
-#[derive(Drop)]
+#[derive(Clone, Copy)]
 pub struct Reply {
     pub refusal: u64,
     pub v: [u64; 7],

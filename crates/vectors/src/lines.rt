@@ -5,7 +5,7 @@ use crate::requests::answer;
 
 // What is left after the whole lines of a read: how many bytes of a line that isn't whole are kept,
 // and whether a part of that line is written already, since it fills the buffer.
-#[derive(Drop)]
+#[derive(Clone, Copy)]
 pub struct Left {
     pub kept: usize,
     pub long: bool,

@@ -1,4 +1,6 @@
 // Vectors of the codec: reads request lines, and writes each with its answer.
+#![tactic(auto)]
+
 mod answers;
 mod fields;
 mod lines;

@@ -49,7 +49,7 @@ pub fn temperature(v: [u64; 6]) -> Reply
 }
 
 // A model's limits and the refusal of its name.
-#[derive(Drop)]
+#[derive(Clone, Copy)]
 struct Named {
     refusal: u64,
     limits: [f32; 5],

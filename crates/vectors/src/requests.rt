@@ -8,7 +8,7 @@ use crate::replies::reply;
 use text::Num;
 
 // The arguments of a request: its numbers, with 0 in the place of a name, and whether they are good.
-#[derive(Drop)]
+#[derive(Clone, Copy)]
 pub struct Args {
     pub v: [u64; 6],
     pub good: bool,

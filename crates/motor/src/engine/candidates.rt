@@ -3,14 +3,14 @@ ghost use Rattle.std.specs.Prelude.{◌≡◌};
 ghost use Rattle.motor.specs.engine.Hosts.{host_candidates, host_at, first_host, next_host};
 
 // The host candidates: a four-place array and a count. Places past the count are 0.
-#[derive(Drop)]
+#[derive(Clone, Copy)]
 pub struct Candidates {
     pub hosts: [u16; 4],
     pub count: u8,
 }
 
 // Whom a request goes to: the candidates in turn; or once, to one named host or to the motor's own.
-#[derive(Drop)]
+#[derive(Clone, Copy)]
 pub enum Hosts {
     Candidates,
     Named(u16),
@@ -18,7 +18,7 @@ pub enum Hosts {
 }
 
 // The host of an attempt with the place of the next, or none.
-#[derive(Drop)]
+#[derive(Clone, Copy)]
 pub enum Host {
     At(u16, u8),
     Gone,

@@ -5,7 +5,7 @@ use codec::registers::ControlMode;
 use codec::word::Word;
 
 // A call with its arguments, in the Rust's order. Timeouts are milliseconds; a float is its word.
-#[derive(Drop)]
+#[derive(Clone, Copy)]
 pub enum Command {
     Ping(u64),
     PingWithHostId(u16, u64),
@@ -37,7 +37,7 @@ pub enum Command {
 
 // What a finished operation gives: nothing, a ping's device and responder (its payload stands beside), a mode, a value, the
 // protocol flag, a float, a signed number, a version's device (its four bytes stand beside).
-#[derive(Drop)]
+#[derive(Clone, Copy)]
 pub enum Outcome {
     Done,
     Ping(u8, u8),
@@ -51,7 +51,7 @@ pub enum Outcome {
 
 // What a start or a step says: sent or waiting, with the next due time; finished, or finished together with a last frame; or
 // a number.
-#[derive(Drop)]
+#[derive(Clone, Copy)]
 pub enum Said {
     Sent(u64),
     Waiting(u64),

@@ -12,14 +12,14 @@ use codec::registers::{ControlMode, ModeRead};
 use codec::word::Word;
 
 // The signed number of a reading, or that it is of another kind.
-#[derive(Drop)]
+#[derive(Clone, Copy)]
 pub enum SignedIn {
     Signed(i8),
     Another,
 }
 
 // The float of a reading, or that it is of another kind.
-#[derive(Drop)]
+#[derive(Clone, Copy)]
 pub enum FloatIn {
     Float(Word),
     Another,

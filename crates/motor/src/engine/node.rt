@@ -8,7 +8,7 @@ use codec::registers::ControlMode;
 
 // What ensure_control_mode is about: the mode, the read's timeout, the attempts left, and the last value read after a mode
 // write.
-#[derive(Drop)]
+#[derive(Clone, Copy)]
 pub struct Aim {
     pub mode: ControlMode,
     pub timeout: u64,
@@ -17,7 +17,7 @@ pub struct Aim {
 }
 
 // Where ensure_control_mode stands: the motor off, before an attempt, the mode written, before reading it back.
-#[derive(Drop)]
+#[derive(Clone, Copy)]
 pub enum Ensure {
     Off,
     Try,
@@ -26,7 +26,7 @@ pub enum Ensure {
 }
 
 // What follows an acknowledgement, or a pause. A float is its word's bits.
-#[derive(Drop)]
+#[derive(Clone, Copy)]
 pub enum Acked {
     Done,
     FaultCleared,
@@ -42,7 +42,7 @@ pub enum Acked {
 }
 
 // What follows a value.
-#[derive(Drop)]
+#[derive(Clone, Copy)]
 pub enum Got {
     Value,
     Flag,
@@ -57,14 +57,14 @@ pub enum Got {
 }
 
 // What follows a ping reply.
-#[derive(Drop)]
+#[derive(Clone, Copy)]
 pub enum Pinged {
     Report,
     Rename(u8),
 }
 
 // What a frame asks.
-#[derive(Drop)]
+#[derive(Clone, Copy)]
 pub enum Request {
     Ping,
     Enable,
@@ -80,14 +80,14 @@ pub enum Request {
 }
 
 // What acknowledges: a rise of the feedback sequence, or of the response count.
-#[derive(Drop)]
+#[derive(Clone, Copy)]
 pub enum Acknowledgement {
     Status,
     Response,
 }
 
 // What is waited for after a request, and what follows.
-#[derive(Drop)]
+#[derive(Clone, Copy)]
 pub enum Wait {
     Acknowledged(Acknowledgement, Request, Acked),
     Value(u16, Got),
@@ -96,7 +96,7 @@ pub enum Wait {
 }
 
 // What an operation does next.
-#[derive(Drop)]
+#[derive(Clone, Copy)]
 pub enum Node {
     Finish(Outcome),
     Report,

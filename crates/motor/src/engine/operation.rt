@@ -8,7 +8,7 @@ use codec::replies::{PingReply, VersionReply};
 use codec::word::Word;
 
 // Where an operation stands: nowhere, before what follows a pause (or is due at once), or in a wait.
-#[derive(Drop)]
+#[derive(Clone, Copy)]
 pub enum Phase {
     Idle,
     Pausing(Acked),
@@ -16,7 +16,7 @@ pub enum Phase {
 }
 
 // The answer that a running get_version has so far, if one came; else zeros.
-#[derive(Drop)]
+#[derive(Clone, Copy)]
 pub struct HeldVersion {
     pub held: bool,
     pub reply: VersionReply,
@@ -24,7 +24,7 @@ pub struct HeldVersion {
 
 // The running operation: its phase and next due time; of a wait its window, whom it asks, the host of this attempt, the place
 // of the next, the count or sequence at this send, and a get_version's answer. What a phase doesn't use is 0.
-#[derive(Drop)]
+#[derive(Clone, Copy)]
 pub struct Operation {
     pub phase: Phase,
     pub due: u64,
@@ -37,21 +37,21 @@ pub struct Operation {
 }
 
 // A ping reply, if one is held; else zeros.
-#[derive(Drop)]
+#[derive(Clone, Copy)]
 pub struct HeldPing {
     pub held: bool,
     pub reply: PingReply,
 }
 
 // The gains of the last motion command, as given before any clamp; at first 0.
-#[derive(Drop)]
+#[derive(Clone, Copy)]
 pub struct Gains {
     pub kp: Word,
     pub kd: Word,
 }
 
 // What an operation sees of its motor.
-#[derive(Drop)]
+#[derive(Clone, Copy)]
 pub struct Sight {
     pub motor_id: u16,
     pub feedback_id: u16,
@@ -64,7 +64,7 @@ pub struct Sight {
 }
 
 // What a move changes of what is held.
-#[derive(Drop)]
+#[derive(Clone, Copy)]
 pub enum Effect {
     Nothing,
     ForgetReading(u16),
@@ -75,7 +75,7 @@ pub enum Effect {
 
 // One move of an operation: what is said, the frame sent and the result's bytes, how the operation stands then, and what
 // changes of what is held. No frame is no_frame; the bytes are a ping's payload, or a version's four and zeros, else zeros.
-#[derive(Drop)]
+#[derive(Clone, Copy)]
 pub struct Move {
     pub said: Said,
     pub frame: CanFrame,

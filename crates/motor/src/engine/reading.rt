@@ -2,13 +2,13 @@
 use codec::protocol::ParameterValue;
 
 // What is kept for a parameter.
-#[derive(Drop)]
+#[derive(Clone, Copy)]
 pub struct Stored {
     pub value: ParameterValue,
 }
 
 // What is held for a parameter.
-#[derive(Drop)]
+#[derive(Clone, Copy)]
 pub enum Found {
     Nothing,
     Held(Stored),

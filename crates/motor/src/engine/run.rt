@@ -26,7 +26,7 @@ use codec::protocol::{EncodedValue, ParameterValue, encode_parameter_value};
 // ---- a node is entered
 
 // What follows a frame that nothing waits for: it ends, it pauses, or it goes on at once.
-#[derive(Drop)]
+#[derive(Clone, Copy)]
 pub enum AfterNode {
     Ends(Outcome),
     Pauses(u32, Acked),

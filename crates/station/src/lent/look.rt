@@ -13,7 +13,7 @@ use codec::error::{Checked, Refusal};
 use motor::motor::Motor;
 
 // The place of a registered motor; the first place, not taken, where the id isn't registered.
-#[derive(Drop)]
+#[derive(Clone, Copy)]
 struct Spot {
     at: usize,
     taken: bool,

@@ -12,7 +12,7 @@ use motor::registration::{Admission, registration_of};
 
 // The place, and whether the call has passed what is tested before any motor takes it. A quiet call concerns no reading; one that
 // edits concerns one. A call that goes nowhere goes to the first place and is refused there.
-#[derive(Drop)]
+#[derive(Clone, Copy)]
 pub struct Route {
     pub at: usize,
     pub said: Checked,

@@ -14,21 +14,21 @@ use motor::quiet::{StateHeard, hear_state};
 use motor::receive::{Heard, process_feedback_frame};
 
 // A motor and the reply.
-#[derive(Drop)]
+#[derive(Clone, Copy)]
 pub struct Visited {
     pub motor: Motor,
     pub replied: Replied,
 }
 
 // The same where the readings stay.
-#[derive(Drop)]
+#[derive(Clone, Copy)]
 pub struct Kept {
     pub state: State,
     pub replied: Replied,
 }
 
 // The same where an edit says what becomes of them.
-#[derive(Drop)]
+#[derive(Clone, Copy)]
 pub struct Edited {
     pub state: State,
     pub edit: Edit,
