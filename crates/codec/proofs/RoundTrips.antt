@@ -41,7 +41,7 @@ join-split id = omega arith
 
 -- decode after encode: the value with its kind and bits
 pub value-raw : (v : ParameterValue) → InRange v → value_as (kind_in v) (raw_of v) ≡ v
-value-raw (I8 v) h = rw (mod-eq_of_lt {n = raw_of (I8 v)} {m = 256} (byte-lt v h)) (ap I8 (to_z-of_z (record { sfits = h })))
+value-raw (I8 v) h = rw (mod-eq_of_lt {n = raw_of (I8 v)} {m = 256} (byte-lt v h)) (ap I8 (to_z-of_z {w = w8} (record { sfits = h })))
 value-raw (U8 v) h = rw (mod-eq_of_lt h)
 value-raw (U16 v) h = rw (mod-eq_of_lt h)
 value-raw (U32 v) h = refl

@@ -18,10 +18,10 @@ byte-lt (negsuc n) h = omega arith
 
 -- reading the bits of v back, at 8 and then at 16 bits
 pub back : (v : ℤ) → mag v < 128 → to_z w8 (of_z w8 v) ≡ v
-back v h = to_z-of_z (record { sfits = h })
+back v h = to_z-of_z {w = w8} (record { sfits = h })
 
 pub back-wide : (v : ℤ) → mag v < 128 → to_z w16 (of_z w16 (to_z w8 (of_z w8 v))) ≡ v
-back-wide v h = ap (λ (z : ℤ). to_z w16 (of_z w16 z)) (back v h) ∙ to_z-of_z (record { sfits = omega arith })
+back-wide v h = ap (λ (z : ℤ). to_z w16 (of_z w16 z)) (back v h) ∙ to_z-of_z {w = w16} (record { sfits = omega arith })
 
 plus : (v : ℤ) → mag v < 128 → lt_z v (pos 0) ≡ true → v +ℤ pos 256 ≡ pos (of_z w8 v)
 plus (pos n) h t = absurd (true≢false (sym t ∙ le-ltb n 0 (omega arith)))
