@@ -1,8 +1,5 @@
 -- An answer is known by its number and its values: from them it comes back, and no two refusals share both. Assumes nothing.
 use mathlib.Core.Path.{◌≡◌, refl, sym, ap₂, ◌∙◌}
-use mathlib.Core.List.{List}
-use Prim.Native.Nat.{ℕ}
-use lib.IntN.{ℤ}
 use Rattle.codec.specs.declared.error.LastMode.TheVariants.{Unread, Read}
 use Rattle.codec.specs.declared.error.Refusal.{Refusal}
 use Rattle.codec.specs.declared.error.Refusal.TheVariants as refusal

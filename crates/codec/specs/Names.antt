@@ -1,6 +1,6 @@
 -- Names as data: a name's bytes, spaces after them up to 16, and how many bytes it has. Definitions only.
 use Rattle.std.specs.Prelude.{ℕ, suc, cond, List, [], ◌∷◌, ◌++◌, eqb, length, take}
-use Prim.Native.Char.{Char, code}
+use Prim.Native.Char.{code}
 use Prim.Native.String.{String}
 use Prim.Native.String as string
 use Rattle.codec.specs.declared.names.Name.{Name}
