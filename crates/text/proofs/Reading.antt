@@ -11,7 +11,6 @@ use lib.Seq.{drop-cons, drop-length, drop-nil, take-length, take_all, slice-cons
 use Rattle.text.specs.Search.{index_of, index_after, slice}
 use lib.Dec.{eqb}
 use borrow.Author.Tests.{lt-ltb, le-ltb, eq-eqb, ne_eqb}
-use Rattle.text.specs.declared.numbers.Num.{Num}
 use Rattle.text.specs.declared.numbers.Num.TheVariants.{Value, Bad}
 use Rattle.text.specs.Numbers.{digit_of, read_from, digits_in}
 use Rattle.text.specs.Words.{word_count, part_at, word_at, past_word, same_bytes, which_of}

@@ -1,4 +1,4 @@
-use Rattle.std.proofs.Common.{◌≡◌, ◌+◌, ◌*◌, ◌<◌, length, sym, ◌∙◌, arith}
+use Rattle.std.proofs.Common.{◌≡◌, length, sym, ◌∙◌, arith}
 use Rattle.text.proofs.Reading.{over, within, some, none, read_done, read-stop, read-over, read-on}
 use Rattle.text.proofs.numbers.digits.Goals as goal
 

@@ -1,4 +1,4 @@
-use Rattle.std.proofs.Common.{arith, ◌%◌}
+use Rattle.std.proofs.Common.{arith}
 use Rattle.text.proofs.Putting.{put-nil, put_then, decimal-none, decimal-last, decimal-more}
 use Rattle.text.proofs.put.+decimal_in.Goals as goal
 

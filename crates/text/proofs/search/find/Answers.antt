@@ -1,5 +1,4 @@
-use Rattle.std.proofs.Common.{◌≡◌, ◌∙◌, sym, arith}
-use Rattle.text.specs.Search.{index_of, slice}
+use Rattle.std.proofs.Common.{◌≡◌, arith}
 use Rattle.text.proofs.Reading.{found, further, searched}
 use Rattle.text.proofs.search.find.Goals as goal
 
