@@ -1,7 +1,7 @@
 -- Where a byte stands. Definitions only.
 use Rattle.std.specs.Prelude.{ℕ, zero, suc, Bool, true, false, List, [], ◌∷◌, take, drop, eqb}
 
--- the place of a head that is looked at, and else of what follows it
+-- 0 where the first byte is the one looked for, else one more than its place in the rest
 unfoldable pub index_after : Bool → ℕ → ℕ
 index_after true n = zero
 index_after false n = suc n
