@@ -4,4 +4,4 @@ use Rattle.motor.proofs.feedback.feedback_in.Goals as goal
 
 pub returns : goal.returns
 unfolding feedback_in
-returns c = rw (c.decode_status_frame-status.ensures, c.Limits-of.ensures)
+returns c = rw (c.decode_status_frame-status.ensures, c.limits_of.ensures)

@@ -1,12 +1,11 @@
 -- Right because the tests are the definition's.
-use borrow.Author.Tests.{not-true, not-false}
 use Rattle.motor.specs.Receive.{is_quiet}
 use Rattle.motor.proofs.quiet.is_quiet.Goals as goal
 
 pub returns-then-not-extended : goal.returns-then-not-extended
 unfolding is_quiet
-returns-then-not-extended c = rw (not-true c.args.extended c.if-not-extended.true)
+returns-then-not-extended c = rw (c.if-not-extended.true)
 
 pub returns : goal.returns
 unfolding is_quiet
-returns c = rw (not-false c.args.extended c.if-not-extended.false, ← c.is_read.ensures)
+returns c = rw (c.if-not-extended.false, ← c.is_read.ensures)

@@ -4,4 +4,4 @@ use Rattle.motor.proofs.receive.counted_at.Goals as goal
 
 pub returns : goal.returns
 unfolding counted_at
-returns c = rw c.wrapping_add_u64.ensures
+returns c = rw c.wrapping_add_u64.ensures.value
