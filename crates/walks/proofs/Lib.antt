@@ -1,1 +1,12 @@
+pub mod ThinWalk
+pub mod Frees
+pub mod Local
+pub mod Lenses
+pub mod Structs
+pub mod Again
+pub mod CallWalk
+pub mod LookWalk
+pub mod LineWalk
+pub mod LoopWalk
+pub mod BeatWalk
 pub mod LastArm
