@@ -5,8 +5,8 @@ use crate::requests::answer;
 use std::io;
 use std::io::{Print, Read, Stdin, Stdout};
 
-// Standard input and output, and the first failure of a read or a write, after which nothing more is
-// written.
+// Standard input and output, and the first failure of a read or a write. After it nothing more is
+// read or written.
 #[derive(Drop)]
 pub struct Streams {
     pub stdin: Stdin,
@@ -44,9 +44,10 @@ pub(crate) fn run(inp: &mut [u8], out: &mut [u8], streams: &mut Streams) {
     }
 }
 
-// Reads after the bytes kept, and answers how many there are then: no more where the input ends.
+// Reads after the bytes kept, and answers how many there are then: no more where the input ends or a
+// call failed.
 fn read_after(inp: &mut [u8], kept: usize, streams: &mut Streams) -> usize {
-    if kept < inp.len() {
+    if kept < inp.len() && streams.said.is_ok() {
         let part = &mut inp[kept..];
         match streams.stdin.read(part) {
             Ok(n) => return std::num::wrapping_add_usize(kept, n),
@@ -181,7 +182,7 @@ fn flush(out: &[u8], n: usize, streams: &mut Streams) {
     }
 }
 
-// Writes all of bytes.
+// Writes all of bytes, but nothing where a call failed before.
 fn write_all(bytes: &[u8], streams: &mut Streams) {
     if streams.said.is_ok() {
         streams.said = streams.stdout.write_all(bytes);
