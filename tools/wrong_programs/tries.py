@@ -83,6 +83,7 @@ class MutantTally:
         self.crate = crate
         self.wanted_count = count
         self.endings = dict.fromkeys((REFUSED, PROVED, UNTOLD, UNCOMPILED), 0)
+        self.facts = 0
         self.survivors: list[str] = []
 
     def reached(self) -> int:
@@ -97,6 +98,7 @@ class MutantTally:
 
     def count(self, edit: Edit, verdict: Verdict) -> None:
         self.endings[verdict.ending] += 1
+        self.facts += verdict.ending == REFUSED and verdict.shows == FACT
         if verdict.ending in (PROVED, UNTOLD):
             self.survivors.append(f"{edit.label}: {verdict.ending}")
 
@@ -104,6 +106,6 @@ class MutantTally:
         survivors = "".join(f"survivor: {line}\n" for line in self.survivors)
         return (
             f"{survivors}wrong-programs: {self.crate}: {self.reached()} mutants reached the prover, "
-            f"{self.endings[REFUSED]} refused, {self.endings[PROVED]} proved, {self.endings[UNTOLD]} without a verdict; "
+            f"{self.endings[REFUSED]} refused, {self.facts} of them by a fact, {self.endings[PROVED]} proved, {self.endings[UNTOLD]} without a verdict; "
             f"{self.endings[UNCOMPILED]} didn't compile"
         )

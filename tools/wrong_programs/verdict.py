@@ -32,6 +32,7 @@ WORDS = (
     ("no occurrence of the path's left endpoint", FIT, "a rewrite finds no place"),
     ("is not in scope", FIT, "a name is gone"),
     ("has no field", FIT, "a name is gone"),
+    ("has no `", FIT, "a name is gone"),
     ("it is not proved that", FACT, "a goal isn't proved"),
     ("did not prove", FACT, "a goal isn't proved"),
     ("the goal does not follow", FACT, "a counterexample"),
@@ -105,7 +106,7 @@ def is_settled(verdict: Verdict, aim: Aim | None, folder: Path, texts: dict[str,
 
 def verdict_of(status: int, said: str, seconds: float, crate: str, aim: Aim | None, folder: Path, texts: dict[str, str]) -> Verdict:
     """What rt check said of an edited crate. Refused is what isn't proved, at what is named; an edit that doesn't reach the prover says
-    nothing. What counts is the first error there, one that shows a fact before one that doesn't, or, where nothing is named, the first of all."""
+    nothing. What counts is the first error there, or, where nothing is named, the first of all: one that shows a fact before one that doesn't."""
     if status == 1 and re.search(r"^(?:logic=not-proved|only=\d+ proved=)", said, re.M):
         ending = REFUSED
     elif status == 0 and re.search(r"^(?:logic=proved|only=\d+ proved=)", said, re.M):
@@ -115,12 +116,11 @@ def verdict_of(status: int, said: str, seconds: float, crate: str, aim: Aim | No
     else:
         ending = UNCOMPILED
     place, message = first_error(said)
-    if ending == REFUSED and aim is not None:
-        there = [error for error in own_errors(said) if is_at(error[0].replace(f"{crate}::", "", 1) if "::" in error[0] else error[0], aim, folder, texts)]
-        there.sort(key=lambda error: shown_by(error[1])[0] != FACT)
+    if ending == REFUSED:
+        there = [error for error in own_errors(said) if aim is None or is_at(error[0].removeprefix(f"{crate}::"), aim, folder, texts)]
         if there:
-            place, message = there[0]
-        else:
+            place, message = min(there, key=lambda error: shown_by(error[1])[0] != FACT)
+        elif aim is not None:
             ending = ELSEWHERE
     shows, reason = shown_by(message)
     return Verdict(ending, seconds, place, message, shows, reason)
