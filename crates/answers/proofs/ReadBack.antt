@@ -12,7 +12,7 @@ use lib.Seq.{take_at, drop_at, get_or_at}
 use borrow.Author.Tests.{le-ltb, lt-ltb, lt-leb, ne_eqb, eqb-true, eqb-false}
 use borrow.Enum.Match.{tag_small}
 use denote.Enum.Declared.{variants}
-use Rattle.bytes.specs.Bytes.{index_of, index_after}
+use Rattle.text.specs.Search.{index_of, index_after}
 use Rattle.codec.specs.declared.bus.CanFrame.{CanFrame}
 use Rattle.motor.specs.declared.engine.command.Command.{Command}
 use Rattle.motor.specs.contracts.engine.command.Command.{the_type}

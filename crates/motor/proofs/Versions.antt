@@ -11,13 +11,12 @@ use Rattle.codec.specs.declared.replies.VersionAnswer.{VersionAnswer}
 use Rattle.codec.specs.declared.replies.VersionReply.{VersionReply}
 use Rattle.codec.specs.Kinds.{among}
 use Rattle.codec.specs.Refusals.{number_of}
-use Rattle.codec.specs.Replies.{is_version_reply, decode_version_reply}
+use Rattle.codec.specs.Replies.{is_version_reply}
 use Rattle.codec.specs.Values.{encode_parameter_value}
 use Rattle.motor.specs.declared.engine.candidates.Host.{Host}
 use Rattle.motor.specs.declared.engine.candidates.Host.TheVariants as host
 use Rattle.motor.specs.declared.engine.command.Command.{Command}
 use Rattle.motor.specs.declared.engine.command.Outcome.TheVariants as outcome
-use Rattle.motor.specs.declared.engine.command.Said.{Said}
 use Rattle.motor.specs.declared.engine.command.Said.TheVariants as said
 use Rattle.motor.specs.declared.engine.operation.HeldVersion.{HeldVersion}
 use Rattle.motor.specs.declared.engine.operation.Move.{Move}
@@ -37,7 +36,7 @@ use Rattle.motor.specs.declared.engine.reading.Found.TheVariants as found
 use Rattle.motor.specs.declared.motor.State.{State}
 use Rattle.motor.specs.Bounds.{LoneEvent, start, step, frame, other, after_event, after_events}
 use Rattle.motor.specs.Calls.{start_said, step_said, sight_of, wanted}
-use Rattle.motor.specs.Lone.{Lone, LoneAnswered, lone_new, lone_start_by, lone_start, lone_step_by, lone_step, hears}
+use Rattle.motor.specs.Lone.{Lone, lone_new, lone_start_by, lone_start, lone_step_by, lone_step, hears}
 use Rattle.motor.specs.Readings.{lookup, room}
 use Rattle.motor.specs.Receive.{parts_of, counted_at, told_by, awaits_version, is_answer, version_in, answer_taken, taken_by, read_id, frame_said, state_after}
 use Rattle.motor.specs.Versions.{Told, AnswerIn, none, from, Versions}

@@ -1,6 +1,6 @@
 -- What holds at each line of a read: what is still to be heard, after what was answered, is the whole read heard. Assumes nothing.
 use Rattle.std.proofs.Common.{◌≡◌, ℕ, suc, ◌+◌, ◌-◌, ◌%◌, ◌^◌, ◌<◌, ◌≤◌, Bool, true, false, cond, not, ltb, leb, List, [], ◌++◌, length, take, drop, sym, refl, ap, ◌∙◌, subst, true≢false, arith, length-drop, length-take, drop-drop, ltb-false, ltb-true, lt-ltb, le-leb, leb-false, leb-true}
-use Rattle.bytes.specs.Bytes.{slice, index_of}
+use Rattle.text.specs.Search.{slice, index_of}
 use Rattle.motor.specs.declared.motor.Motor.{Motor}
 use Rattle.station.specs.declared.station.Station.{Station}
 use Rattle.station.specs.lent.Lent.{station_of}

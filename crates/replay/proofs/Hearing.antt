@@ -1,6 +1,6 @@
 -- Bytes heard one after the other are lines, each up to its LF, and what follows the last. Assumes nothing.
 use Rattle.std.proofs.Common.{◌≡◌, ℕ, zero, suc, ◌+◌, ◌<◌, ◌≤◌, Bool, true, false, eqb, List, [], ◌∷◌, ◌++◌, length, take, drop, sym, refl, ap, ◌∙◌, append_assoc, append-nil, arith, take_all, take-take, eqb-true}
-use Rattle.bytes.specs.Bytes.{index_of, index_after}
+use Rattle.text.specs.Search.{index_of, index_after}
 use Rattle.station.specs.declared.station.Station.{Station}
 use Rattle.replay.specs.Events.{station_after_line, text_after_line}
 use Rattle.replay.specs.Program.{HeardSoFar, heard, hear, hear_all, Plain}

@@ -3,7 +3,7 @@ use Rattle.std.proofs.Common.{◌≡◌, ℕ, zero, suc, ◌+◌, Bool, true, fa
 use lib.Dec.{eqb-zero-suc, eqb-suc-zero, eqb-suc-suc}
 use types.Run.{OneOf, miss}
 use denote.Enum.Declared.{tag_of}
-use Rattle.bytes.specs.Bytes.{index_of, index_after, slice}
+use Rattle.text.specs.Search.{index_of, index_after, slice}
 use Rattle.text.specs.Ascii.{ascii}
 use Rattle.text.specs.Words.{part_at}
 use Rattle.session.specs.declared.event.Reason.{Reason}

@@ -1,6 +1,6 @@
 -- Where a line stands, where its answer goes, and the line after it; what the lines of a read leave. Definitions only.
 use Rattle.std.specs.Prelude.{◌≡◌, ℕ, ◌+◌, ◌-◌, ◌%◌, ◌^◌, ◌<◌, ◌≤◌, true, false, cond, not, leb, List, [], length, take, drop, nat_le, nat_lt}
-use Rattle.bytes.specs.Bytes.{slice, index_of}
+use Rattle.text.specs.Search.{slice, index_of}
 use Rattle.replay.specs.declared.cursor.Cursor.{Cursor}
 use Rattle.station.specs.declared.station.Station.{Station}
 use Rattle.replay.specs.Limits.{output_room}

@@ -36,7 +36,7 @@ fn line_end(inp: &[u8], from: usize, n: usize) -> usize
 {
     if n <= inp.len() {
         if from <= n {
-            return bytes::scan::find(inp, from, n, b'\n');
+            return text::find(inp, from, n, b'\n');
         }
     }
     n

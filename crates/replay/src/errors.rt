@@ -82,7 +82,7 @@ fn put_bad_word(n: usize, letter: u8, out: &mut [u8], at: usize) -> usize
 fn put_wanted(letter: u8, out: &mut [u8], at: usize) -> usize
     ensures { Put out.old at (spec.wanted_text letter) out.new result }
 {
-    let k = bytes::scan::find(b"BHWFDCKVX", 0, 9, letter);
+    let k = text::find(b"BHWFDCKVX", 0, 9, letter);
     let text = text::part(
         b"a number up to 255|a number up to 0xFFFF|a number up to 0xFFFFFFFF|0 or 1|16 hexadecimal digits|mit, pp, velocity or csp|i8, u8, u16, u32 or f32|a value of its kind: it is wider|a word|a number below 2^64, in decimal or after 0x",
         b'|',

@@ -10,7 +10,7 @@ use Rattle.codec.specs.declared.registers.ControlMode.TheVariants as mode
 use Rattle.codec.specs.declared.word.Word.{Word}
 use Rattle.motor.specs.declared.engine.command.Command.{Command}
 use Rattle.motor.specs.declared.engine.command.Command.TheVariants as command
-use Rattle.bytes.specs.Bytes.{index_of}
+use Rattle.text.specs.Search.{index_of}
 use Rattle.text.specs.Words.{word_at}
 use Rattle.station.specs.declared.call.Call.TheVariants as call
 use Rattle.session.specs.declared.arguments.Args.{Args}

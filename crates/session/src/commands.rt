@@ -49,7 +49,7 @@ fn start_event(k: usize, shape: &[u8], v: [u64; 8]) -> Event
 fn too_wide(shape: &[u8], v: [u64; 8]) -> usize
     ensures { result ≡ spec.too_wide shape.now v }
 {
-    let kind = bytes::scan::find(shape, 0, shape.len(), b'K');
+    let kind = text::find(shape, 0, shape.len(), b'K');
     if shape.len() <= kind {
         return 0;
     }

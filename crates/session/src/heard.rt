@@ -82,7 +82,7 @@ fn milliseconds(seconds: Num, micros: Num) -> Num
 fn logged_frame(w: &[u8], time: u64) -> Line
     ensures { result ≡ spec.logged_frame w.now time }
 {
-    let end = bytes::scan::find(w, 0, w.len(), b'#');
+    let end = text::find(w, 0, w.len(), b'#');
     if w.len() <= end {
         return bad(Reason::FrameId);
     }

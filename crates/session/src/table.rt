@@ -26,12 +26,12 @@ pub(crate) fn place(table: &[u8], w: &[u8]) -> usize
     if table.len() == 0 {
         return 0;
     }
-    let end = bytes::scan::find(table, 0, table.len(), b' ');
+    let end = text::find(table, 0, table.len(), b' ');
     if text::same_bytes(w, &table[..end]) {
         return 0;
     }
     let shape = text::past(table, end);
-    let stop = bytes::scan::find(shape, 0, shape.len(), b' ');
+    let stop = text::find(shape, 0, shape.len(), b' ');
     let rest = text::past(shape, stop);
     (table.len() - rest.len()) + place(rest, w)
 }

@@ -9,7 +9,7 @@ use lib.Dec.{eqb, ltb}
 use lib.ListN.{length, length-append}
 use lib.Seq.{take-length, take_at, drop-append-add}
 use borrow.Author.Tests.{ltb-true, ltb-false, lt-ltb, le-ltb, ne_eqb}
-use Rattle.bytes.specs.Bytes.{index_of, index_after}
+use Rattle.text.specs.Search.{index_of, index_after}
 use Rattle.text.specs.declared.numbers.Num.TheVariants.{Value}
 use Rattle.text.specs.Numbers.{digit_of, read_from, digits_in}
 use Rattle.text.specs.Put.{glyph_of, digits_text, decimal_in}

@@ -7,11 +7,10 @@ use native.Mathlib.Omega.{arith}
 use native.Mathlib.Numerals.{add-one}
 use native.Mathlib.Nat.{le-div_iff_mul-le, div-lt_iff_lt-mul}
 use lib.ListN.{length, take, drop, get_or, length-drop}
-use lib.Seq.{drop-cons, drop-length, drop-nil, take-length, take_all}
-use Rattle.bytes.specs.Bytes.{index_of, slice}
+use lib.Seq.{drop-cons, drop-length, drop-nil, take-length, take_all, slice-cons, slice_empty}
+use Rattle.text.specs.Search.{index_of, index_after, slice}
 use lib.Dec.{eqb}
 use borrow.Author.Tests.{lt-ltb, le-ltb, eq-eqb, ne_eqb}
-use Rattle.text.specs.declared.numbers.Num.{Num}
 use Rattle.text.specs.declared.numbers.Num.TheVariants.{Value, Bad}
 use Rattle.text.specs.Numbers.{digit_of, read_from, digits_in}
 use Rattle.text.specs.Words.{word_count, part_at, word_at, past_word, same_bytes, which_of}
@@ -62,6 +61,21 @@ module _ (s : List ℕ) (i : ℕ) (h : i < length s) where
 pub words-done : (s : List ℕ) → word_count (drop (length s) s) ≡ 1
 unfolding word_count
 words-done s = rw drop-length
+
+-- ---- a search from one place up to another
+
+module _ (b : ℕ) (s : List ℕ) (i to : ℕ) (h : i < to) (k : to ≤ length s) where
+  pub found : get_or s i 0 ≡ b → index_of b (slice i to s) ≡ 0
+  unfolding index_of index_after slice
+  found e = rw (slice-cons i to s 0 h k, eq-eqb _ _ e)
+
+  pub further : (get_or s i 0 ≡ b → ⊥) → index_of b (slice i to s) ≡ index_of b (slice (i + 1) to s) + 1
+  unfolding index_of index_after slice
+  further e = rw (slice-cons i to s 0 h k, ne_eqb _ _ e, add-one i) (omega arith)
+
+pub searched : (b : ℕ) (s : List ℕ) (to : ℕ) → index_of b (slice to to s) ≡ 0
+unfolding index_of slice
+searched b s to = rw slice_empty
 
 -- a search of the whole of s
 pub whole : (b : ℕ) (s : List ℕ) → 0 + index_of b (slice 0 (length s) s) ≡ index_of b s

@@ -1,6 +1,6 @@
 -- Words parted by single spaces. Definitions only.
 use Rattle.std.specs.Prelude.{ℕ, zero, suc, ◌+◌, Bool, true, false, cond, ◌&&◌, List, [], ◌∷◌, take, drop, eqb}
-use Rattle.bytes.specs.Bytes.{index_of}
+use Rattle.text.specs.Search.{index_of}
 
 -- how many words s has: one more than its spaces
 unfoldable pub word_count : List ℕ → ℕ

@@ -10,6 +10,7 @@ pub enum Num {
 }
 
 // A decimal number, or a hexadecimal one after 0x.
+#[tactic(auto, unfolding(crate::specs::Numbers::number_in))]
 pub fn number(w: &[u8]) -> Num
     ensures { result ≡ number_in w.now }
 {
@@ -64,6 +65,7 @@ fn digits(w: &[u8], base: u64) -> Num
 }
 
 // What a digit stands for: 0 to 9, A to F, a to f; 16 for any other byte.
+#[tactic(auto, unfolding(crate::specs::Numbers::digit_of))]
 fn digit(b: u8) -> u64
     ensures { result ≡ digit_of b }
 {

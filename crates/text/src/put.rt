@@ -75,6 +75,7 @@ fn decimal_in(out: &mut [u8], at: usize, n: u64, k: usize) -> usize
 }
 
 // A digit as a byte: 0 to 9, A to F.
+#[tactic(auto, unfolding(crate::specs::Put::glyph_of))]
 fn glyph(d: u64) -> u8
     requires { d < 16 }
     ensures { result ≡ glyph_of d }

@@ -3,6 +3,8 @@
 ghost use Rattle.std.specs.Prelude.{◌≡◌, ◌+◌, ◌≤◌, drop};
 ghost use Rattle.text.specs.Words.{word_count, part_at, word_at, same_bytes, which_of};
 
+use crate::search::find;
+
 // How many words s has.
 pub fn word_count(s: &[u8]) -> usize
     ensures { result ≡ word_count s.now }
@@ -29,7 +31,7 @@ pub fn word(s: &[u8], k: usize) -> &[u8]
 pub fn part(s: &[u8], b: u8, k: usize) -> &[u8]
     ensures { result.now ≡ part_at b s.now k }
 {
-    let end = bytes::scan::find(s, 0, s.len(), b);
+    let end = find(s, 0, s.len(), b);
     if k == 0 {
         return &s[..end];
     }
@@ -73,7 +75,7 @@ pub fn which(names: &[u8], n: usize, w: &[u8]) -> usize
     if n == 0 {
         return 0;
     }
-    let end = bytes::scan::find(names, 0, names.len(), b' ');
+    let end = find(names, 0, names.len(), b' ');
     if same_bytes(w, &names[..end]) {
         return 0;
     }

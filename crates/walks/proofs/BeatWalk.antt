@@ -9,9 +9,9 @@ use mathlib.Core.Bool.{Bool, true, false, not}
 use lib.Dec.{T, ltb, ltb→lt, lt→ltb}
 use lib.WfN.{lt-wf_rel}
 use seplogic.Ra.Ura.{Ura}
-use seplogic.Ra.TreeShare.{full_share}
-use mir.Syntax.{Name, ty_ref, ty_bool, ty_int, mut, named, erased, w64, Fn, Body, Local, local, value_local, memory_slot, place, Step as PStep, copy, int, rv_opd, op2, lt, unsigned, addr_of, seq, assign, call, block, loop, cond, skip, exit, return}
-use mir.Val.{Val, vunit, vbool, vint, vfloat, vptr, vstruct}
+use base.Fraction.{full_share}
+use mir.Syntax.{Callee as Name, ty_ref, ty_bool, ty_int, mut, named, erased, w64, Fn, Body, Local, local, value_local, memory_slot, place, Step as PStep, copy, int, rv_opd, op2, lt, unsigned, addr_of, seq, assign, call, block, loop, cond, skip, exit, return}
+use mir.Val.{Val, vunit, vbool, vint, vfloat, vptr, vcode, vstruct}
 use mir.Fields.{set_v}
 use base.Logic.{SProp, ent, sep, ex, guard, emp, via, fst∗, id⊢}
 use base.Fml.{GName, Share, Fml, ftrue, fat, flft, fres}
@@ -26,7 +26,7 @@ use types.Part.{Part, look_in}
 use sound.WpLaws.{FmC, fm_of, WpFn-mono}
 use denote.Laws.{Is, shows}
 use denote.Memory.{pointee}
-use denote.Ref.{Bor}
+use denote.Ref.{MutBor}
 use denote.Signature.{Signature, plain, mut_ref_to}
 use denote.Steps.{only, owned, peeks, heard, nothing}
 use denote.Triple.Statement.{Contract, Triple}
@@ -56,6 +56,7 @@ with_first (vbool y) u = vunit
 with_first (vint w n) u = vunit
 with_first (vfloat f y) u = vunit
 with_first (vptr b o) u = vunit
+with_first (vcode t) u = vunit
 with_first (vstruct vs) u = vstruct (set_v vs 0 u)
 
 -- a part of a local that is a number: how it is reached and read
@@ -63,7 +64,7 @@ pub record Counts {M : Type 1} {𝓤 : Ura M} (𝓛 : Logic 𝓤) (D : Held) (pa
   pub off : ℕ → ℕ
   pub upd : D.Denot → Val → Val
   pub way : {Γ : List (Item 𝓤)} {E : Env 𝓤 𝓛.H} (b o : ℕ) → Ways (Go {0}) 𝓛 Γ E (D.ty, b, o) path (ty_int w64, b, off o)
-  pub part : (q : Share) (b o : ℕ) (d : D.Denot) → Part {𝓤 = 𝓤} {H = 𝓛.H} {A = 𝓛.A} (Go {0}) 𝓛 (‵ (fat q D.ty b o (D.val d))) q (ty_int w64) b (off o) (vint w64 (left d)) (λ u. ‵ (fat q D.ty b o (upd d u)))
+  pub part : (q : Share) (b o : ℕ) (d : D.Denot) → Part {𝓤 = 𝓤} (Go {0}) 𝓛 (‵ (fat q D.ty b o (D.val d))) q (ty_int w64) b (off o) (vint w64 (left d)) (λ u. ‵ (fat q D.ty b o (upd d u)))
 
 -- Z is lent, P asked, O replied, D carried
 module _ (Z P O D : Held) (left-path : List PStep) (left : D.Denot → ℕ) where
@@ -109,6 +110,8 @@ module _ (Z P O D : Held) (left-path : List PStep) (left : D.Denot → ℕ) wher
   code #asked #call #next = record {
     lifetimes = 0;
     outlives = [];
+    ty_params = [];
+    givens = 0;
     params = 2;
     locals = locals;
     body = seq (assign (place 3 []) (rv_opd (copy (place 1 [])))) (seq (assign (place 4 []) (rv_opd (copy (place 2 [])))) (seq (block (loop (turn #asked #call #next))) rest));
@@ -128,7 +131,7 @@ module _ (Z P O D : Held) (left-path : List PStep) (left : D.Denot → ℕ) wher
   next-signature = record { lifetimes = 0; outlives = []; params = plain (λ _. still D) ∷ plain (λ _. still O) ∷ []; result = plain (λ _. row D) }
 
   module _ {M : Type 1} {𝓤 : Ura M} (𝓛 : Logic 𝓤) (promised : Z.Denot → D.Denot → D.Denot → SProp 𝓤) (asked-ensures : D.Denot → P.Denot → SProp 𝓤)
-      (call-promised : Lfts 1 → Bor Z.Denot → P.Denot → O.Denot → Bor Z.Denot → SProp 𝓤) (next-ensures : D.Denot → O.Denot → D.Denot → SProp 𝓤) where
+      (call-promised : Lfts 1 → MutBor Z.Denot → P.Denot → O.Denot → MutBor Z.Denot → SProp 𝓤) (next-ensures : D.Denot → O.Denot → D.Denot → SProp 𝓤) where
     open 𝓛 use {H, A}
 
     abbrev pub clauses : Clauses 𝓤 ended
@@ -157,7 +160,7 @@ module _ (Z P O D : Held) (left-path : List PStep) (left : D.Denot → ℕ) wher
         (AskedIs : D.Denot → P.Denot → Type 0) (CalledIs : Z.Denot → P.Denot → O.Denot → Z.Denot → Type 0) (NextIs : D.Denot → O.Denot → D.Denot → Type 0)
         (Onward : Z.Denot → D.Denot → Z.Denot → D.Denot → Type 0)
         (asked-said : (b : D.Denot) (p : P.Denot) → ent 𝓤 (asked-ensures b p) (fact 𝓤 (AskedIs b p)))
-        (call-said : (κs : Lfts 1) (m : Bor Z.Denot) (p : P.Denot) (o : O.Denot) (end : Bor Z.Denot) → ent 𝓤 (call-promised κs m p o end) (fact 𝓤 (CalledIs m.now p o end.now)))
+        (call-said : (κs : Lfts 1) (m : MutBor Z.Denot) (p : P.Denot) (o : O.Denot) (end : MutBor Z.Denot) → ent 𝓤 (call-promised κs m p o end) (fact 𝓤 (CalledIs m.now p o end.now)))
         (next-said : (b : D.Denot) (o : O.Denot) (r : D.Denot) → ent 𝓤 (next-ensures b o r) (fact 𝓤 (NextIs b o r)))
         (stands : (z : Z.Denot) (b : D.Denot) → Onward z b z b)
         (falls : (z s s' : Z.Denot) (b d r : D.Denot) (p : P.Denot) (o : O.Denot) → Onward z b s d → AskedIs d p → CalledIs s p o s' → NextIs d o r → 0 < left d → (left r < left d) × Onward z b s' r)
@@ -205,7 +208,7 @@ module _ (Z P O D : Held) (left-path : List PStep) (left : D.Denot → ℕ) wher
           gives-asked : (v : Val) → ent 𝓤 (Asked.post to-asked v) (H.⇛ (ex 𝓤 (Had-asked v)))
           gives-asked v =
               qed 𝓛 (raw (Asked.post to-asked v) ∷ []) ∵ updating ! $
-              use1 𝓛 (later (some (λ (p : P.Denot). (‵ ftrue ⊛ ‵ (P.own p (v ∷ []))) ⊛ raw (asked-ensures d p)))) (id⊢ 𝓤 _) $ await ! tt $ pick ! (λ p.
+              use1 𝓛 (later (some (λ (p : P.Denot). (‵ ftrue ⊛ ‵ (P.own_val p (v ∷ []))) ⊛ raw (asked-ensures d p)))) (id⊢ 𝓤 _) $ await ! tt $ pick ! (λ p.
               split ! $ move ! (1 ∷ []) $ use1 𝓛 (raw (fact 𝓤 (AskedIs d p))) (asked-said d p) $ heard ! (AskedIs d p) (λ told.
               split ! $ move ! (1 ∷ []) $ peeks ! (row P) (Is (row P)) (shows 𝓛 (row P)) p (v ∷ []) (λ is.
               at_once ! $ show ! (Had-asked v) p $ check ! (is, told) $ keep ! [] $ done !)))
@@ -233,11 +236,11 @@ module _ (Z P O D : Held) (left-path : List PStep) (left : D.Denot → ℕ) wher
           gives-call : (u : Val) → ent 𝓤 (Called.post to-call u) (H.⇛ (ex 𝓤 (λ (r : O.Denot). ex 𝓤 (Had-call u r))))
           gives-call u =
               qed 𝓛 (raw (Called.post to-call u) ∷ []) ∵ updating ! $
-              use1 𝓛 (later (some (λ (r : O.Denot). ((‵ (flft (α ∷ []) full_share) ⊛ ‵ ftrue) ⊛ ‵ (O.own r (u ∷ []))) ⊛ some (λ (ws : Last). ‵ (lasts call-ended to-call.0.0 to-call.0.3 ws) ⊛ raw ((call-clauses to-call.0.0 to-call.0.3).ensures tt r (at_exit call-ended to-call.0.0 to-call.0.3 ws)))))) (id⊢ 𝓤 _) $ await ! tt $ pick ! (λ r.
+              use1 𝓛 (later (some (λ (r : O.Denot). ((‵ (flft (α ∷ []) full_share) ⊛ ‵ ftrue) ⊛ ‵ (O.own_val r (u ∷ []))) ⊛ some (λ (ws : Last). ‵ (lasts call-ended to-call.0.0 to-call.0.3 ws) ⊛ raw ((call-clauses to-call.0.0 to-call.0.3).ensures tt r (at_exit call-ended to-call.0.0 to-call.0.3 ws)))))) (id⊢ 𝓤 _) $ await ! tt $ pick ! (λ r.
               split ! $ move ! (1 ∷ []) $ pick ! (λ ws. split ! $
               move ! (1 ∷ []) $ use1 𝓛 (raw (fact 𝓤 (CalledIs s p r ws.0))) (call-said to-call.0.0 to-call.0.3.0 p r _) $ heard ! (CalledIs s p r ws.0) (λ told.
               fsplit ! $ move ! (2 ∷ []) $ split ! $ split ! $ move ! (2 ∷ []) $ peeks ! (row O) (Is (row O)) (shows 𝓛 (row O)) r (u ∷ []) (λ is.
-              at_once ! $ show ! (λ (r' : O.Denot). ex 𝓤 (Had-call u r')) r $ show ! (Had-call u r) ws.0 $ check ! (is, told) $ keep ! (1 ∷ 3 ∷ []) $ done !))))
+              at_once ! $ show ! (λ (r' : O.Denot). ex 𝓤 (Had-call u r')) r $ show ! (Had-call u r) ws.0 $ check ! (is, told) $ keep ! (3 ∷ 1 ∷ []) $ fsplit ! $ keep ! (2 ∷ 0 ∷ []) $ done !))))
 
         -- ---- what is carried on
         module _ (d : D.Denot) (o : O.Denot) (u : Val) (d-is : IsD d) (o_is : Is (still O) o (u ∷ [])) where
@@ -254,7 +257,7 @@ module _ (Z P O D : Held) (left-path : List PStep) (left : D.Denot → ℕ) wher
           gives-next : (w : Val) → ent 𝓤 (Next.post to-next w) (H.⇛ (ex 𝓤 (Had-next w)))
           gives-next w =
               qed 𝓛 (raw (Next.post to-next w) ∷ []) ∵ updating ! $
-              use1 𝓛 (later (some (λ (r : D.Denot). (‵ ftrue ⊛ ‵ (D.own r (w ∷ []))) ⊛ raw (next-ensures d o r)))) (id⊢ 𝓤 _) $ await ! tt $ pick ! (λ r.
+              use1 𝓛 (later (some (λ (r : D.Denot). (‵ ftrue ⊛ ‵ (D.own_val r (w ∷ []))) ⊛ raw (next-ensures d o r)))) (id⊢ 𝓤 _) $ await ! tt $ pick ! (λ r.
               split ! $ move ! (1 ∷ []) $ use1 𝓛 (raw (fact 𝓤 (NextIs d o r))) (next-said d o r) $ heard ! (NextIs d o r) (λ told.
               split ! $ move ! (1 ∷ []) $ peeks ! (row D) (Is (row D)) (shows 𝓛 (row D)) r (w ∷ []) (λ is.
               at_once ! $ show ! (Had-next w) r $ check ! (is, told) $ keep ! [] $ done !)))

@@ -7,10 +7,10 @@ use mathlib.Core.List.{[], ◌∷◌, List}
 use lib.Dec.{T, ltb, lit<}
 use lib.ListN.{length, get_or, set, length-set}
 use seplogic.Ra.Ura.{Ura}
-use seplogic.Ra.TreeShare.{full_share}
-use mir.Syntax.{Sym, Name, Ty, ty_ref, ty_ptr, ty_int, ty_bool, ty_array, ty_struct, tnil, tcons, mut, named, w16, w64, Fn, Body, Local, local, value_local, place, Step as PStep, deref, field, copy, int, int_big, rv_opd, aggregate, op2, mul, offset, unsigned, addr_of, seq, assign, call, cond, skip, return}
+use base.Fraction.{full_share}
+use mir.Syntax.{Sym, Callee as Name, Ty, ty_ref, ty_ptr, ty_int, ty_bool, ty_array, mut, named, w16, w64, Fn, Body, Local, local, value_local, place, Step as PStep, deref, field, copy, int, int_big, rv_opd, aggregate, op2, mul, offset, unsigned, addr_of, seq, assign, call, cond, skip, return}
 use mir.Raw.{raw as raw_ty}
-use mir.Val.{Val, Fits, of_list, vbool, vint, vptr, vstruct, vnil, vcons}
+use mir.Val.{Val, Fits, of_list, vint, vptr, vstruct}
 use base.Logic.{SProp, ent, sep, emp, via, fst∗, id⊢, guard_i}
 use base.Fml.{GName, Lft, Share, ftrue, fat, flft, fobs, fbor}
 use prog.Wp.{Env, Calls, Loops, WpFn, Tables}
@@ -152,6 +152,8 @@ module _ (S Y E P O D : Held) (Q V₁ V₂ V₃ : RattleType) (νq ν₁ ν₂ �
   code #routed #kept #edited #visited = record {
     lifetimes = 1;
     outlives = [];
+    ty_params = [];
+    givens = 0;
     params = 2;
     locals = values (O.ty ∷ ty_ref (named 0) mut (pointee Eight.written) ∷ P.ty ∷ ty_array (ty_int w16) 8 ∷ route_ty ∷ ty_int w64 ∷ answer_ty ν₁ Y O ∷ edited_ty ∷ ty_int w64 ∷ ty_int w64 ∷ answer_ty ν₂ S O ∷ ty_ptr ∷ ty_ptr ∷ ty_int w16 ∷ ty_ptr ∷ ty_ptr ∷ ty_int w16 ∷ ty_ptr ∷ ty_ptr ∷ ty_int w16 ∷ ty_ptr ∷ ty_ptr ∷ ty_int w16 ∷ ty_ptr ∷ ty_ptr ∷ ty_int w16 ∷ ty_ptr ∷ ty_ptr ∷ ty_int w16 ∷ ty_ptr ∷ ty_ptr ∷ ty_int w16 ∷ ty_ptr ∷ ty_ptr ∷ ty_int w16 ∷ ty_bool ∷ ty_int w64 ∷ ty_ptr ∷ ty_ptr ∷ Y.ty ∷ ty_ptr ∷ ty_ptr ∷ ty_int w64 ∷ ty_ptr ∷ ty_ptr ∷ S.ty ∷ ty_ptr ∷ ty_ptr ∷ ty_ptr ∷ ty_ptr ∷ ty_int w64 ∷ ty_ptr ∷ ty_ptr ∷ ty_ptr ∷ ty_ptr ∷ ty_ptr ∷ ty_ptr ∷ ty_ptr ∷ ty_ptr ∷ ty_int w64 ∷ ty_ptr ∷ ty_ptr ∷ S.ty ∷ ty_ptr ∷ ty_ptr ∷ []);
     body =
@@ -308,7 +310,7 @@ module _ (S Y E P O D : Held) (Q V₁ V₂ V₃ : RattleType) (νq ν₁ ν₂ �
               -- where the call goes
               nothing ! $ use1 𝓛 (raw (Routed.pre to-routed)) (goes-routed (vint w16 (ident (get_or xs 0 none)) ∷ vint w16 (ident (get_or xs 1 none)) ∷ vint w16 (ident (get_or xs 2 none)) ∷ vint w16 (ident (get_or xs 3 none)) ∷ vint w16 (ident (get_or xs 4 none)) ∷ vint w16 (ident (get_or xs 5 none)) ∷ vint w16 (ident (get_or xs 6 none)) ∷ vint w16 (ident (get_or xs 7 none)) ∷ [], ((refl, refl), (((refl, (sight.got (get_or xs 0 none) g0).1), ((refl, (sight.got (get_or xs 1 none) g1).1), ((refl, (sight.got (get_or xs 2 none) g2).1), ((refl, (sight.got (get_or xs 3 none) g3).1), ((refl, (sight.got (get_or xs 4 none) g4).1), ((refl, (sight.got (get_or xs 5 none) g5).1), ((refl, (sight.got (get_or xs 6 none) g6).1), ((refl, (sight.got (get_or xs 7 none) g7).1), tt)))))))))))) $
               calls_at ! fm Routed routed-known to-routed (and_then ! (load ! (from ! (stop !)) (look ! 129 refl)) (and_then ! (load ! (from ! (stop !)) (look ! 131 refl)) (no_more !))) (λ u.
-              use1 𝓛 (later (some (λ (r : Q.Denot). (‵ ftrue ⊛ ‵ (Q.own r (u ∷ []))) ⊛ raw (routed-ensures (ids xs) a r)))) (id⊢ 𝓤 _) $ await ! tt $ pick ! (λ r.
+              use1 𝓛 (later (some (λ (r : Q.Denot). (‵ ftrue ⊛ ‵ (Q.own_val r (u ∷ []))) ⊛ raw (routed-ensures (ids xs) a r)))) (id⊢ 𝓤 _) $ await ! tt $ pick ! (λ r.
               split ! $ move ! (1 ∷ []) $ use1 𝓛 (raw (fact 𝓤 ((r ≡ route (ids xs) a) × (spot r < 8)))) (routed-said (ids xs) a r) $ heard ! ((r ≡ route (ids xs) a) × (spot r < 8)) (λ r-told. split ! $ drop ! $
               peeks ! Q (Is Q) (shows 𝓛 Q) r (u ∷ []) (λ u-is.
               let i : ℕ = spot r in
@@ -329,7 +331,7 @@ module _ (S Y E P O D : Held) (Q V₁ V₂ V₃ : RattleType) (νq ν₁ ν₂ �
               assigns ! (of_opd ! (load ! (from ! (hop ! (look ! 59 refl) (state.sight.way b (place_of size o i)))) (look_in ! 0 (state.sight.cell full_share b (place_of size o i) h)))) (from ! (stop !)) (init ! 57 refl (Yk.fits (part h) _ (state.sight.got h g))) $
               nothing ! $ use1 𝓛 (raw (Kept.pre (to-kept h r))) (goes_kept h r (state.sight.got h g) r-is) $
               calls_at ! fm Kept kept-known (to-kept h r) (and_then ! (load ! (from ! (stop !)) (look ! 58 refl)) (and_then ! (load ! (from ! (stop !)) (look ! 132 refl)) (and_then ! (load ! (from ! (stop !)) (look ! 128 refl)) (no_more !)))) (λ w.
-              use1 𝓛 (later (some (λ (v : V₁.Denot). (‵ ftrue ⊛ ‵ (V₁.own v (w ∷ []))) ⊛ raw (kept-ensures (part h) a r v)))) (id⊢ 𝓤 _) $ await ! tt $ pick ! (λ v.
+              use1 𝓛 (later (some (λ (v : V₁.Denot). (‵ ftrue ⊛ ‵ (V₁.own_val v (w ∷ []))) ⊛ raw (kept-ensures (part h) a r v)))) (id⊢ 𝓤 _) $ await ! tt $ pick ! (λ v.
               split ! $ move ! (1 ∷ []) $ use1 𝓛 (raw (fact 𝓤 (v ≡ f₁ (part h) a r))) (kept-said (part h) a r v) $ heard ! (v ≡ f₁ (part h) a r) (λ e. split ! $ drop ! $
               peeks ! V₁ (Is V₁) (shows 𝓛 V₁) v (w ∷ []) (λ v-is. land ! (from ! (stop !)) (init ! 124 refl (Vk₁.fits v w v-is)) $ drop ! $
               rewrite ! 123 (λ (us : List Val). ‵ (fat full_share (answer_ty ν₁ Y O) l6 0 (only us))) (Vk₁.tells v w v-is) refl $
@@ -352,7 +354,7 @@ module _ (S Y E P O D : Held) (Q V₁ V₂ V₃ : RattleType) (νq ν₁ ν₂ �
               assigns ! (of_opd ! (load ! (from ! (hop ! (look ! 47 refl) (all.sight.way b (place_of size o i)))) (look_in ! 0 (all.sight.cell full_share b (place_of size o i) h)))) (from ! (stop !)) (init ! 45 refl (Sk.fits h _ g)) $
               nothing ! $ use1 𝓛 (raw (Edited.pre (to-edited h))) (goes-edited h g) $
               calls_at ! fm Edited edited-known (to-edited h) (and_then ! (load ! (from ! (stop !)) (look ! 46 refl)) (and_then ! (load ! (from ! (stop !)) (look ! 132 refl)) (no_more !))) (λ w.
-              use1 𝓛 (later (some (λ (v : V₃.Denot). (‵ ftrue ⊛ ‵ (V₃.own v (w ∷ []))) ⊛ raw (edited-ensures h a v)))) (id⊢ 𝓤 _) $ await ! tt $ pick ! (λ v.
+              use1 𝓛 (later (some (λ (v : V₃.Denot). (‵ ftrue ⊛ ‵ (V₃.own_val v (w ∷ []))) ⊛ raw (edited-ensures h a v)))) (id⊢ 𝓤 _) $ await ! tt $ pick ! (λ v.
               split ! $ move ! (1 ∷ []) $ use1 𝓛 (raw (fact 𝓤 ((v ≡ f₃ h a) × (at₁ v < rows) × (at₂ v < rows)))) (edited-said h a v) $ heard ! ((v ≡ f₃ h a) × (at₁ v < rows) × (at₂ v < rows)) (λ e. split ! $ drop ! $
               peeks ! V₃ (Is V₃) (shows 𝓛 V₃) v (w ∷ []) (λ v-is. land ! (from ! (stop !)) (init ! 122 refl (Vk₃.fits v w v-is)) $ drop ! $
               rewrite ! 121 (λ (us : List Val). ‵ (fat full_share (edited_ty) l7 0 (only us))) (Vk₃.tells v w v-is) refl $
@@ -388,7 +390,7 @@ module _ (S Y E P O D : Held) (Q V₁ V₂ V₃ : RattleType) (νq ν₁ ν₂ �
               assigns ! (of_opd ! (load ! (from ! (hop ! (look ! 13 refl) (all.sight.way b (place_of size o i)))) (look_in ! 0 (all.sight.cell full_share b (place_of size o i) h)))) (from ! (stop !)) (init ! 11 refl (Sk.fits (h) _ (all.sight.got h g))) $
               nothing ! $ use1 𝓛 (raw (Visited.pre (to-visited h r))) (goes-visited h r (all.sight.got h g) r-is) $
               calls_at ! fm Visited visited-known (to-visited h r) (and_then ! (load ! (from ! (stop !)) (look ! 12 refl)) (and_then ! (load ! (from ! (stop !)) (look ! 132 refl)) (and_then ! (load ! (from ! (stop !)) (look ! 128 refl)) (no_more !)))) (λ w.
-              use1 𝓛 (later (some (λ (v : V₂.Denot). (‵ ftrue ⊛ ‵ (V₂.own v (w ∷ []))) ⊛ raw (visited-ensures (h) a r v)))) (id⊢ 𝓤 _) $ await ! tt $ pick ! (λ v.
+              use1 𝓛 (later (some (λ (v : V₂.Denot). (‵ ftrue ⊛ ‵ (V₂.own_val v (w ∷ []))) ⊛ raw (visited-ensures (h) a r v)))) (id⊢ 𝓤 _) $ await ! tt $ pick ! (λ v.
               split ! $ move ! (1 ∷ []) $ use1 𝓛 (raw (fact 𝓤 (v ≡ f₂ (h) a r))) (visited-said (h) a r v) $ heard ! (v ≡ f₂ (h) a r) (λ e. split ! $ drop ! $
               peeks ! V₂ (Is V₂) (shows 𝓛 V₂) v (w ∷ []) (λ v-is. land ! (from ! (stop !)) (init ! 116 refl (Vk₂.fits v w v-is)) $ drop ! $
               rewrite ! 115 (λ (us : List Val). ‵ (fat full_share (answer_ty ν₂ S O) l10 0 (only us))) (Vk₂.tells v w v-is) refl $

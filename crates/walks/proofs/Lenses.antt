@@ -10,7 +10,7 @@ use lib.Seq.{set-get_or}
 use seplogic.Ra.Ura.{Ura}
 use mir.Syntax.{Sym, Ty, ty_int, ty_bool, ty_array, ty_struct, tnil, tcons, w16, w64, Step as PStep}
 use mir.Raw.{raw as raw_ty}
-use mir.Val.{Val, vunit, vbool, vint, vfloat, vptr, vstruct, vnil, vcons, WT, has_ty}
+use mir.Val.{Val, vunit, vbool, vint, vfloat, vptr, vcode, vstruct, vnil, vcons, WT, has_ty}
 use mir.Fields.{set_v}
 use base.Logic.{SProp, ent, sep, wand, all, all_e, apply∗}
 use base.Fml.{Share, fat}
@@ -18,7 +18,7 @@ use prog.Memory.{size}
 use prog.Model.{elems}
 use prog.Wp.{Env}
 use types.Logic.{Logic}
-use types.Kit.{Go, Item, ‵, raw, ◌⊛◌, mean, ◌$◌, ◌∵◌, !, qed, by, move, use1, use2, split, frame, each, assume, done}
+use types.Kit.{Go, Item, ‵, raw, ◌⊛◌, mean, ◌$◌, ◌∵◌, !, qed, move, use1, use2, split, frame, each, assume, done}
 use types.Run.{Walks as Ways}
 use types.Part.{Part}
 use denote.RattleType.{RattleType}
@@ -28,7 +28,7 @@ use denote.Index.{place}
 use Rattle.walks.proofs.ThinWalk.{Held, row, uint}
 
 -- what lies behind a reference is a cell at the raw form of its type
-pub whole-raw : {M : Type 1} {𝓤 : Ura M} {𝓛 : Logic 𝓤} {K : Type 0} → K → {q : Share} {τ : Ty} {b o : ℕ} {v : Val} → Part {𝓤 = 𝓤} {H = 𝓛.H} {A = 𝓛.A} K 𝓛 (‵ (fat q (raw_ty τ) b o v)) q τ b o v (λ u. ‵ (fat q (raw_ty τ) b o u))
+pub whole-raw : {M : Type 1} {𝓤 : Ura M} {𝓛 : Logic 𝓤} {K : Type 0} → K → {q : Share} {τ : Ty} {b o : ℕ} {v : Val} → Part {𝓤 = 𝓤} K 𝓛 (‵ (fat q (raw_ty τ) b o v)) q τ b o v (λ u. ‵ (fat q (raw_ty τ) b o u))
 whole-raw {𝓤 = 𝓤} {𝓛 = 𝓛} t {q} {τ} {b} {o} {v} = record {
   out = qed 𝓛 (‵ (fat q (raw_ty τ) b o v) ∷ []) ∵ use1 𝓛 (‵ (fat q τ b o v)) (𝓛.laws.raw_at q τ b o v) $ frame ! $
       each ! (λ (u : Val). wand 𝓤 (𝓛.H.at q τ b o u) (𝓛.H.at q (raw_ty τ) b o u)) (λ u. assume {P = 𝓛.H.at q (raw_ty τ) b o u} ! (‵ (fat q τ b o u)) $ use1 𝓛 (‵ (fat q (raw_ty τ) b o u)) (𝓛.laws.at_raw q τ b o u) $ done !);
@@ -42,13 +42,14 @@ with-field (vbool y) k u = vunit
 with-field (vint w n) k u = vunit
 with-field (vfloat f x) k u = vunit
 with-field (vptr b o) k u = vunit
+with-field (vcode t) k u = vunit
 with-field (vstruct vs) k u = vstruct (set_v vs k u)
 
 pub record Sight {M : Type 1} {𝓤 : Ura M} (𝓛 : Logic 𝓤) (S X : Held) (path : List PStep) (read : S.Denot → X.Denot) : Type 2 where
   pub off : ℕ → ℕ
   pub upd : S.Denot → Val → Val
   pub way : {Γ : List (Item 𝓤)} {E : Env 𝓤 𝓛.H} (b o : ℕ) → Ways (Go {0}) 𝓛 Γ E (S.ty, b, o) path (X.ty, b, off o)
-  pub cell : (q : Share) (b o : ℕ) (h : S.Denot) → Part {𝓤 = 𝓤} {H = 𝓛.H} {A = 𝓛.A} (Go {0}) 𝓛 (‵ (fat q (raw_ty S.ty) b o (S.val h))) q X.ty b (off o) (X.val (read h)) (λ u. ‵ (fat q (raw_ty S.ty) b o (upd h u)))
+  pub cell : (q : Share) (b o : ℕ) (h : S.Denot) → Part {𝓤 = 𝓤} (Go {0}) 𝓛 (‵ (fat q (raw_ty S.ty) b o (S.val h))) q X.ty b (off o) (X.val (read h)) (λ u. ‵ (fat q (raw_ty S.ty) b o (upd h u)))
   pub got : (h : S.Denot) → Is (row S) h (S.val h ∷ []) → Is (row X) (read h) (X.val (read h) ∷ [])
 
 pub record Lens {M : Type 1} {𝓤 : Ura M} (𝓛 : Logic 𝓤) (S X : Held) (path : List PStep) (read : S.Denot → X.Denot) (put : S.Denot → X.Denot → S.Denot) : Type 2 where
@@ -110,7 +111,7 @@ module _ {M : Type 1} {𝓤 : Ura M} (𝓛 : Logic 𝓤) (q : Share) (τ : Ty) (
 
   -- element k of an array's cell that p finds
   pub element : {i : Item 𝓤} {o : ℕ} {back : Val → Item 𝓤} (n : ℕ) (us : List Val) (k : ℕ) → length us ≡ n → k < length us
-      → Part {𝓤 = 𝓤} {H = H} {A = A} (Go {0}) 𝓛 i q (ty_array τ n) b o (array_val us) back → Part {𝓤 = 𝓤} {H = H} {A = A} (Go {0}) 𝓛 i q τ b (place (size τ) o k) (get_or us k d) (λ u. back (array_val (set us k u)))
+      → Part {𝓤 = 𝓤} (Go {0}) 𝓛 i q (ty_array τ n) b o (array_val us) back → Part {𝓤 = 𝓤} (Go {0}) 𝓛 i q τ b (place (size τ) o k) (get_or us k d) (λ u. back (array_val (set us k u)))
   element {i} {o} {back} n us k len l p = record {
     out = qed 𝓛 (i ∷ []) ∵ use1 𝓛 (‵ (fat q (ty_array τ n) b o (array_val us)) ⊛ raw (all 𝓤 Entry)) p.out $ split ! $
         use1 𝓛 (raw (elems 𝓤 H q τ b o us)) (𝓛.laws.at_elems q τ n b o us) $
@@ -141,6 +142,6 @@ pub record Rows {M : Type 1} {𝓤 : Ura M} (𝓛 : Logic 𝓤) (S X : Held) (el
   pub way : {Γ : List (Item 𝓤)} {E : Env 𝓤 𝓛.H} (b o : ℕ) → Ways (Go {0}) 𝓛 Γ E (S.ty, b, o) path (array, b, base o)
   pub on : {Γ : List (Item 𝓤)} {E : Env 𝓤 𝓛.H} (b o : ℕ) → Ways (Go {0}) 𝓛 Γ E (elem, b, o) tail (X.ty, b, rest o)
   pub cell : (q : Share) (b o : ℕ) (h : S.Denot) (k : ℕ) → Is (row S) h (S.val h ∷ []) → k < n
-      → Part {𝓤 = 𝓤} {H = 𝓛.H} {A = 𝓛.A} (Go {0}) 𝓛 (‵ (fat q (raw_ty S.ty) b o (S.val h))) q X.ty b (rest (place esize (base o) k)) (old h k) (λ u. ‵ (fat q (raw_ty S.ty) b o (upd h k u)))
+      → Part {𝓤 = 𝓤} (Go {0}) 𝓛 (‵ (fat q (raw_ty S.ty) b o (S.val h))) q X.ty b (rest (place esize (base o) k)) (old h k) (λ u. ‵ (fat q (raw_ty S.ty) b o (upd h k u)))
   pub put_is : (h : S.Denot) (k : ℕ) (x : X.Denot) → upd h k (X.val x) ≡ S.val (put h k x)
   pub made : (h : S.Denot) (k : ℕ) (x : X.Denot) → k < n → Is (row S) h (S.val h ∷ []) → Is (row X) x (X.val x ∷ []) → Is (row S) (put h k x) (S.val (put h k x) ∷ [])

@@ -6,28 +6,29 @@ use mathlib.Core.List.{[], ◌∷◌, List}
 use lib.Dec.{T}
 use lib.ListN.{length}
 use seplogic.Ra.Ura.{Ura}
-use seplogic.Ra.TreeShare.{full_share}
-use mir.Syntax.{Sym, Name, Ty, ty_ref, ty_int, ty_struct, ty_enum, Tys, tnil, tcons, Tyss, ttnil, ttcons, imm, mut, named, erased, w8, w64, Fn, Body, Local, local, value_local, place, deref, field, variant, copy, rv_opd, aggregate, addr_of, seq, assign, call, switch, arm, no_default, return}
+use base.Fraction.{full_share}
+use mir.Syntax.{Sym, Callee as Name, Ty, ty_ref, ty_int, ty_struct, ty_enum, Tys, tnil, tcons, Tyss, ttnil, ttcons, imm, mut, named, erased, w8, w64, Fn, Body, Local, local, value_local, place, deref, field, variant, copy, rv_opd, aggregate, addr_of, seq, assign, call, switch, arm, no_default, return}
 use mir.Val.{Val, Vals, vptr, vint, vstruct, vnil, vcons, WT, has_ty}
 use base.Logic.{SProp, ent, emp, snd∗, ex_e, id⊢}
-use base.Fml.{GName, Lft, Share, Fml, ftrue, fsep, fat, flft, fres}
+use base.Fml.{GName, Lft, Share, Fml, ftrue, fsep, fat, flft, fres, fbor}
 use prog.Wp.{Calls, Loops, WpFn, Tables}
 use types.Logic.{Logic, sem}
 use contract.Monad.{fact}
 use types.Kit.{Item, ‵, raw, ◌⊛◌, ⋆, some, later, ◌$◌, ◌∵◌, !, qed, by, move, drop, use1, use2, use3, split, join, pick, rewrite, fsplit, fsplit3, fjoin, feq_l, suffices, frame, await, done}
 use types.Run.{OneOf, miss, look, look_raw, init, store_raw, stop, hop, fld, from, load, addr, and_then, no_more, land, of_opd, assigns, first, switches, returns_within, enter, alloc1, alloc0, params1, pass1, pass0}
+use types.SemTy.{Body as Borrowed, Arr}
+use types.Hole.{Holey}
 use types.Part.{agg, whole, sub, look_in}
 use types.Match.{live, vrt, in_variant, look_tag}
 use sound.WpLaws.{FmC, fm_of, WpFn-mono}
 use denote.RattleType.{RattleType, owns}
 use denote.Exit.{unchanged, yes}
-use denote.Laws.{Is, Makes, shows}
-use denote.Memory.{pointee}
-use denote.Array.{each}
-use denote.Plain.{uint_vals, uint_Tells, uint_Makes, uint_Lawful}
+use denote.Laws.{Is, shows}
+use denote.Memory.{mem, pointee}
+use denote.Plain.{uint_row_laws, uint_vals, uint_Tells, uint_Makes, uint_Lawful}
 use denote.Builtin.{u8, usize}
-use denote.Ref.{Bor, MutBor, MutRef, shr_vals, mut_Tells}
-use denote.Slice.{slice_ty, slice_val, MutSlice, ShrSlice, Room, finally, shr_slice_vals, mut_slice_Tells, shr_slice_Tells, shr_slice_Lawful, shr_slice_copy}
+use denote.Ref.{Bor, MutBor, MutRef, mut_vals, mut_Tells}
+use denote.Slice.{slice_ty, slice_val, MutSlice, ShrSlice, Room, finally, shr_slice_vals, mut_slice_vals, mut_slice_Tells, shr_slice_Tells, shr_slice_Lawful, shr_slice_copy}
 use denote.Signature.{plain, mut_ref_to, mut_slice_of, shr_slice_of}
 use denote.Steps.{only, opens, closes, owned, peeks, heard, nothing}
 use denote.Struct.Steps.{spelt}
@@ -48,7 +49,7 @@ abbrev pub line_ty_of : Sym → Held → Held → Ty
 line_ty_of ν E F = ty_struct ν (tcons E.ty (tcons F.ty tnil))
 
 abbrev pub line_row : Sym → Held → Held → Held → RattleType
-line_row ν E F L = record { Denot = L.Denot; mir = line_ty_of ν E F ∷ []; written = L.written; reaches = L.reaches; own_val = L.own; exit = λ k. unchanged; coded = L.coded }
+line_row ν E F L = record { Denot = L.Denot; mir = line_ty_of ν E F ∷ []; written = L.written; reaches = L.reaches; lives = L.lives; own_val = L.own_val; exit = λ k. unchanged; coded = L.coded; shr_at = L.shr_at }
 
 abbrev pub pair_val : (E F : Held) → E.Denot → F.Denot → Val
 pair_val E F e f = vstruct (vcons (E.val e) (vcons (F.val f) vnil))
@@ -61,7 +62,7 @@ pub record Lines (E F L : Held) (ν : Sym) (event : L.Denot → E.Denot) (frame 
 
 -- an enum of these variants
 abbrev pub enum_of : Sym → Tyss → Held → Held
-enum_of ν τss X = record { Denot = X.Denot; ty = ty_enum ν τss; written = X.written; reaches = X.reaches; own_val = X.own; exit = X.exit; coded = X.coded; val = X.val }
+enum_of ν τss X = record { Denot = X.Denot; ty = ty_enum ν τss; written = X.written; reaches = X.reaches; lives = X.lives; own_val = X.own_val; exit = X.exit; coded = X.coded; shr_at = X.shr_at; val = X.val }
 
 -- the calls: the fifth is a look, with its key
 abbrev pub call_of : Sym → Tys → Tys → Tys → Tys → Held → Tys → Held → Held
@@ -178,6 +179,8 @@ module _ (Z P O K X D L F Q C₀ E₀ : Held) (R : RattleType) (νl νr νc νe 
   code #line #call #reply #look #show #value = record {
     lifetimes = 3;
     outlives = [];
+    ty_params = [];
+    givens = 0;
     params = 5;
     locals = values (D.ty ∷ ty_ref (named 0) mut (pointee Z.written) ∷ slice_ty (ty_ref (named 1) imm (ty_int w8)) ∷ ty_int w64 ∷ slice_ty (ty_ref (named 2) mut (ty_int w8)) ∷ D.ty ∷ line_ty ∷ E.ty ∷ C.ty ∷ K.ty ∷ X.ty ∷ F.ty ∷ O.ty ∷ Q.ty ∷ answer_ty νr Z D ∷ ty_ref erased mut (pointee Z.written) ∷ ty_ref erased mut (ty_int w8) ∷ lent_ty ∷ ty_ref erased mut (pointee Z.written) ∷ P.ty ∷ ty_ref erased mut (ty_int w8) ∷ lent_ty ∷ Z.ty ∷ ty_ref erased mut (ty_int w8) ∷ lent_ty ∷ []);
     body =
@@ -237,12 +240,12 @@ module _ (Z P O K X D L F Q C₀ E₀ : Held) (R : RattleType) (νl νr νc νe 
         (holds-asks : (h : Z.Denot) (xs : List ℕ) (n : ℕ) (ys : List ℕ) (c : D.Denot) (l : L.Denot) (k : C₀.Denot) (y : O.Denot) (z : Z.Denot) (r : D.Denot) (zs : List ℕ) → Free ys c → Says xs c l → event l ≡ calls k → NotLook k → Called h (asks k (framed l)) y z → Replies y k xs n ys c r zs → Promised h xs n ys c r z zs)
         (holds-looks : (h : Z.Denot) (xs : List ℕ) (n : ℕ) (ys : List ℕ) (c : D.Denot) (l : L.Denot) (k : C₀.Denot) (id : K.Denot) (y : X.Denot) (z : Z.Denot) (r : D.Denot) (zs : List ℕ) → Free ys c → Says xs c l → event l ≡ calls k → k ≡ looks id → Looked h id y z → Shows y xs n ys c r zs → Promised h xs n ys c r z zs)
         (holds-other : (h : Z.Denot) (xs : List ℕ) (n : ℕ) (ys : List ℕ) (c : D.Denot) (l : L.Denot) (w : Q.Denot) (v : R.Denot) (zs : List ℕ) → Free ys c → Says xs c l → event l ≡ others w → Takes h w xs n ys c v zs → Promised h xs n ys c (cur v) (st v) zs) where
-      module _ (κ₀ κ₁ κ₂ : Lft) (q₀ q₁ q₂ : Share) (b o : ℕ) (γ : GName) (h : Z.Denot) (s : MutBor (List ℕ)) (n : ℕ) (b' o' : ℕ) (γ' : GName) (ys : List ℕ) (c : D.Denot) where
+      module _ (κ₀ κ₁ κ₂ : Lft) (q₀ q₁ q₂ : Share) (b o : ℕ) (γ : GName) (h : Z.Denot) (s : Bor (List ℕ)) (n : ℕ) (b' o' : ℕ) (γ' : GName) (ys : List ℕ) (c : D.Denot) where
         -- what is passed, and its machine values
         abbrev xt : MutBor Z.Denot
         xt = record { ref_ptr = (b, o); ghost_name = γ; now = h }
 
-        abbrev xo : Bor (List ℕ)
+        abbrev xo : MutBor (List ℕ)
         xo = record { ref_ptr = (b', o'); ghost_name = γ'; now = ys }
 
         abbrev sv : Val
@@ -251,7 +254,7 @@ module _ (Z P O K X D L F Q C₀ E₀ : Held) (R : RattleType) (νl νr νc νe 
         abbrev ov : Val
         ov = slice_val (b', o') (length ys)
 
-        abbrev x : Bor Z.Denot × (Bor (List ℕ) × (ℕ × (Bor (List ℕ) × (D.Denot × U))))
+        abbrev x : MutBor Z.Denot × (Bor (List ℕ) × (ℕ × (MutBor (List ℕ) × (D.Denot × U))))
         x = (xt, (s, (n, (xo, (c, tt)))))
 
         abbrev at : List Val × (List Val × (List Val × (List Val × (List Val × U))))
@@ -279,10 +282,17 @@ module _ (Z P O K X D L F Q C₀ E₀ : Held) (R : RattleType) (νl νr νc νe 
         abbrev IO : Item 𝓤
         IO = ‵ (fsep Own-inp ((MutSlice (named 2) κ₂ u8).own_val xo (ov ∷ [])))
 
+        -- what says the station's last value, and the last list, each with its borrow
+        abbrev St-end : Z.Denot → Fml
+        St-end z = fsep (fres γ (Z.coded.code z)) (fbor κ₀ (Borrowed (mem (still Z)) b o γ))
+
+        abbrev Out-end : List ℕ → Fml
+        Out-end zs = fsep (finally u8 γ' zs) (fbor κ₂ (Borrowed (Arr (Holey (mem u8)) (length ys)) b' o' γ'))
+
         exits : (r : D.Denot) (w : Val) (z : Z.Denot) (zs : List ℕ) → Promised h s.now n ys c r z zs → length zs ≡ length ys
-            → ent 𝓤 (⋆ 𝓛 (‵ (D.own r (w ∷ [])) ∷ T12 ∷ ‵ (finally u8 γ' zs) ∷ T0 ∷ ‵ (fres γ (Z.coded.code z)) ∷ [])) (Post w)
+            → ent 𝓤 (⋆ 𝓛 (‵ (D.own_val r (w ∷ [])) ∷ T12 ∷ ‵ (Out-end zs) ∷ T0 ∷ ‵ (St-end z) ∷ [])) (Post w)
         exits r w z zs e l =
-            qed 𝓛 (‵ (D.own r (w ∷ [])) ∷ T12 ∷ ‵ (finally u8 γ' zs) ∷ T0 ∷ ‵ (fres γ (Z.coded.code z)) ∷ []) ∵
+            qed 𝓛 (‵ (D.own_val r (w ∷ [])) ∷ T12 ∷ ‵ (Out-end zs) ∷ T0 ∷ ‵ (St-end z) ∷ []) ∵
             suffices ! _ (ends_at 𝓛 ended stayed clauses bound w r (z, (tt, (tt, (zs, (tt, tt))))) (tt, (tt, (tt, (l, (tt, tt)))))) $ says ! e $
             move ! (3 ∷ []) $ split ! $ move ! (0 ∷ 3 ∷ []) $ join ! $ frame ! $
             nothing ! $ fjoin ! $ move ! (2 ∷ 0 ∷ []) $ fjoin ! $ nothing ! $ fjoin ! $ nothing ! $ fjoin ! $ move ! (2 ∷ 0 ∷ []) $ fjoin ! $ frame ! $ done !
@@ -295,7 +305,7 @@ module _ (Z P O K X D L F Q C₀ E₀ : Held) (R : RattleType) (νl νr νc νe 
           goes-line : ent 𝓤 (⋆ 𝓛 (‵ Own-inp ∷ ‵ (flft κ₁ q₁) ∷ [])) (CLine.pre to-line)
           goes-line = qed 𝓛 (‵ Own-inp ∷ ‵ (flft κ₁ q₁) ∷ []) ∵ nothing ! $ owned ! (still D) (Is (still D)) Dk.makes c _ c-is $ fjoin ! $ move ! (1 ∷ 0 ∷ []) $ fjoin ! $ nothing ! $ move ! (2 ∷ 0 ∷ []) $ join ! $ join ! $ frame ! $ done !
 
-          abbrev call-args : C₀.Denot → F.Denot → Bor Z.Denot × (P.Denot × U)
+          abbrev call-args : C₀.Denot → F.Denot → MutBor Z.Denot × (P.Denot × U)
           call-args k f = (xt, (asks k f, tt))
 
           abbrev to-call : C₀.Denot → F.Denot → CCall.Ghost
@@ -304,16 +314,16 @@ module _ (Z P O K X D L F Q C₀ E₀ : Held) (R : RattleType) (νl νr νc νe 
           goes-call : (k : C₀.Denot) (f : F.Denot) → Is (row P) (asks k f) (pair_val C F k f ∷ []) → ent 𝓤 (⋆ 𝓛 (‵ (flft κ₀ q₀) ∷ ‵ Own-st ∷ [])) (CCall.pre (to-call k f))
           goes-call k f a-is = qed 𝓛 (‵ (flft κ₀ q₀) ∷ ‵ Own-st ∷ []) ∵ nothing ! $ owned ! (still P) (Is (still P)) Pk.makes (asks k f) _ a-is $ fjoin ! $ move ! (2 ∷ 0 ∷ []) $ fjoin ! $ nothing ! $ move ! (2 ∷ 0 ∷ []) $ join ! $ join ! $ frame ! $ done !
 
-          abbrev reply-args : O.Denot → C₀.Denot → O.Denot × (C₀.Denot × (Bor (List ℕ) × (ℕ × (Bor (List ℕ) × (D.Denot × U)))))
+          abbrev reply-args : O.Denot → C₀.Denot → O.Denot × (C₀.Denot × (Bor (List ℕ) × (ℕ × (MutBor (List ℕ) × (D.Denot × U)))))
           reply-args y k = (y, (k, (s, (n, (xo, (c, tt))))))
 
           abbrev to-reply : O.Denot → C₀.Denot → Val → CReply.Ghost
           to-reply y k u = (((κ₁, (κ₂, tt)), (q₁, (q₂, tt)), tt, reply-args y k, (u ∷ [], (C.val k ∷ [], (sv ∷ [], (vint w64 n ∷ [], (ov ∷ [], (D.val c ∷ [], tt))))))), tt)
 
-          goes-reply : (y : O.Denot) (k : C₀.Denot) (u : Val) → Is (row C) k (C.val k ∷ []) → ent 𝓤 (⋆ 𝓛 (T12 ∷ ‵ (O.own y (u ∷ [])) ∷ IO ∷ [])) (CReply.pre (to-reply y k u))
-          goes-reply y k u k-is = qed 𝓛 (T12 ∷ ‵ (O.own y (u ∷ [])) ∷ IO ∷ []) ∵ move ! (2 ∷ []) $ fsplit ! $ nothing ! $ owned ! (still D) (Is (still D)) Dk.makes c _ c-is $ fjoin ! $ move ! (2 ∷ 0 ∷ []) $ fjoin ! $ owned ! usize (Is usize) (uint_Makes 𝓛 w64) n _ n-is $ fjoin ! $ move ! (1 ∷ 0 ∷ []) $ fjoin ! $ owned ! (still C) (Is (still C)) Ck.makes k _ k-is $ fjoin ! $ move ! (2 ∷ 0 ∷ []) $ fjoin ! $ move ! (1 ∷ 0 ∷ []) $ join ! $ frame ! $ done !
+          goes-reply : (y : O.Denot) (k : C₀.Denot) (u : Val) → Is (row C) k (C.val k ∷ []) → ent 𝓤 (⋆ 𝓛 (T12 ∷ ‵ (O.own_val y (u ∷ [])) ∷ IO ∷ [])) (CReply.pre (to-reply y k u))
+          goes-reply y k u k-is = qed 𝓛 (T12 ∷ ‵ (O.own_val y (u ∷ [])) ∷ IO ∷ []) ∵ move ! (2 ∷ []) $ fsplit ! $ nothing ! $ owned ! (still D) (Is (still D)) Dk.makes c _ c-is $ fjoin ! $ move ! (2 ∷ 0 ∷ []) $ fjoin ! $ owned ! usize (Is usize) (uint_Makes 𝓛 w64) n _ n-is $ fjoin ! $ move ! (1 ∷ 0 ∷ []) $ fjoin ! $ owned ! (still C) (Is (still C)) Ck.makes k _ k-is $ fjoin ! $ move ! (2 ∷ 0 ∷ []) $ fjoin ! $ move ! (1 ∷ 0 ∷ []) $ join ! $ frame ! $ done !
 
-          abbrev look-args : K.Denot → Bor Z.Denot × (K.Denot × U)
+          abbrev look-args : K.Denot → MutBor Z.Denot × (K.Denot × U)
           look-args id = (xt, (id, tt))
 
           abbrev to-look : K.Denot → CLook.Ghost
@@ -322,16 +332,16 @@ module _ (Z P O K X D L F Q C₀ E₀ : Held) (R : RattleType) (νl νr νc νe 
           goes-look : (id : K.Denot) → Is (row K) id (K.val id ∷ []) → ent 𝓤 (⋆ 𝓛 (‵ (flft κ₀ q₀) ∷ ‵ Own-st ∷ [])) (CLook.pre (to-look id))
           goes-look id k-is = qed 𝓛 (‵ (flft κ₀ q₀) ∷ ‵ Own-st ∷ []) ∵ nothing ! $ owned ! (still K) (Is (still K)) Kk.makes id _ k-is $ fjoin ! $ move ! (2 ∷ 0 ∷ []) $ fjoin ! $ nothing ! $ move ! (2 ∷ 0 ∷ []) $ join ! $ join ! $ frame ! $ done !
 
-          abbrev show-args : X.Denot → X.Denot × (Bor (List ℕ) × (ℕ × (Bor (List ℕ) × (D.Denot × U))))
+          abbrev show-args : X.Denot → X.Denot × (Bor (List ℕ) × (ℕ × (MutBor (List ℕ) × (D.Denot × U))))
           show-args y = (y, (s, (n, (xo, (c, tt)))))
 
           abbrev to-show : X.Denot → Val → CShow.Ghost
           to-show y u = (((κ₁, (κ₂, tt)), (q₁, (q₂, tt)), tt, show-args y, (u ∷ [], (sv ∷ [], (vint w64 n ∷ [], (ov ∷ [], (D.val c ∷ [], tt)))))), tt)
 
-          goes-show : (y : X.Denot) (u : Val) → ent 𝓤 (⋆ 𝓛 (T12 ∷ ‵ (X.own y (u ∷ [])) ∷ IO ∷ [])) (CShow.pre (to-show y u))
-          goes-show y u = qed 𝓛 (T12 ∷ ‵ (X.own y (u ∷ [])) ∷ IO ∷ []) ∵ move ! (2 ∷ []) $ fsplit ! $ nothing ! $ owned ! (still D) (Is (still D)) Dk.makes c _ c-is $ fjoin ! $ move ! (2 ∷ 0 ∷ []) $ fjoin ! $ owned ! usize (Is usize) (uint_Makes 𝓛 w64) n _ n-is $ fjoin ! $ move ! (1 ∷ 0 ∷ []) $ fjoin ! $ move ! (2 ∷ 0 ∷ []) $ fjoin ! $ move ! (1 ∷ 0 ∷ []) $ join ! $ frame ! $ done !
+          goes-show : (y : X.Denot) (u : Val) → ent 𝓤 (⋆ 𝓛 (T12 ∷ ‵ (X.own_val y (u ∷ [])) ∷ IO ∷ [])) (CShow.pre (to-show y u))
+          goes-show y u = qed 𝓛 (T12 ∷ ‵ (X.own_val y (u ∷ [])) ∷ IO ∷ []) ∵ move ! (2 ∷ []) $ fsplit ! $ nothing ! $ owned ! (still D) (Is (still D)) Dk.makes c _ c-is $ fjoin ! $ move ! (2 ∷ 0 ∷ []) $ fjoin ! $ owned ! usize (Is usize) (uint_Makes 𝓛 w64) n _ n-is $ fjoin ! $ move ! (1 ∷ 0 ∷ []) $ fjoin ! $ move ! (2 ∷ 0 ∷ []) $ fjoin ! $ move ! (1 ∷ 0 ∷ []) $ join ! $ frame ! $ done !
 
-          abbrev value-args : Q.Denot → Z.Denot × (Q.Denot × (Bor (List ℕ) × (ℕ × (Bor (List ℕ) × (D.Denot × U)))))
+          abbrev value-args : Q.Denot → Z.Denot × (Q.Denot × (Bor (List ℕ) × (ℕ × (MutBor (List ℕ) × (D.Denot × U)))))
           value-args w = (h, (w, (s, (n, (xo, (c, tt))))))
 
           abbrev to-value : Q.Denot → CValue.Ghost
@@ -354,11 +364,11 @@ module _ (Z P O K X D L F Q C₀ E₀ : Held) (R : RattleType) (νl νr νc νe 
                 move ! (51 ∷ []) $ fsplit ! $ move ! (1 ∷ []) $ fsplit ! $ move ! (1 ∷ []) $ fsplit ! $ drop ! $ fsplit ! $ move ! (1 ∷ []) $ drop ! $
                 -- the tokens too, and the input is copied: [IO; inp; t2; t1; t0; st; locals]
                 move ! (53 ∷ []) $ split ! $ move ! (1 ∷ []) $ split ! $ move ! (1 ∷ []) $ split ! $ move ! (1 ∷ []) $ drop ! $
-                move ! (4 ∷ []) $ use1 𝓛 (‵ Own-inp ⊛ ‵ Own-inp) ((shr_slice_copy 𝓛 (named 1) κ₁ u8).twice s (sv ∷ [])) $ split ! $ move ! (0 ∷ 5 ∷ []) $ fjoin ! $
+                move ! (4 ∷ []) $ use1 𝓛 (‵ Own-inp ⊛ ‵ Own-inp) ((shr_slice_copy 𝓛 (named 1) κ₁ u8 (uint_row_laws w8)).twice s (sv ∷ [])) $ split ! $ move ! (0 ∷ 5 ∷ []) $ fjoin ! $
                 -- the line
                 move ! (1 ∷ 3 ∷ []) $ use2 𝓛 (raw (CLine.pre to-line)) goes-line $
                 calls_at ! fm CLine known-line to-line (and_then ! (load ! (from ! (stop !)) (look ! 49 refl)) (and_then ! (load ! (from ! (stop !)) (look ! 43 refl)) (no_more !))) (λ u.
-                use1 𝓛 (later (some (λ (l : L.Denot). ((‵ (flft κ₁ q₁) ⊛ ‵ ftrue) ⊛ ‵ (line.own l (u ∷ []))) ⊛ raw (ensured 𝓛 line-ended line-clauses (κ₁, tt) (s, (c, tt)) tt l)))) (id⊢ 𝓤 _) $ await ! tt $ pick ! (λ l.
+                use1 𝓛 (later (some (λ (l : L.Denot). ((‵ (flft κ₁ q₁) ⊛ ‵ ftrue) ⊛ ‵ (line.own_val l (u ∷ []))) ⊛ raw (ensured 𝓛 line-ended line-clauses (κ₁, tt) (s, (c, tt)) tt l)))) (id⊢ 𝓤 _) $ await ! tt $ pick ! (λ l.
                 split ! $ move ! (1 ∷ []) $ use1 𝓛 (raw (fact 𝓤 (Says s.now c l))) (ex_e 𝓤 _ (λ ws. snd∗ 𝓤 (sem 𝓛 (lasts line-ended (κ₁, tt) (s, (c, tt)) ws)) (fact 𝓤 (Says s.now c l)))) $ heard ! (Says s.now c l) (λ l-said. split ! $ move ! (1 ∷ []) $
                 peeks ! line (Is line) (shows 𝓛 line) l (u ∷ []) (λ is.
                 land ! (from ! (stop !)) (init ! 42 refl (Lk.fits l u is)) $ drop ! $
@@ -384,7 +394,7 @@ module _ (Z P O K X D L F Q C₀ E₀ : Held) (R : RattleType) (νl νr νc νe 
                             -- at the borrow's own lifetime, share and name
                             move ! (2 ∷ 3 ∷ []) $ use2 𝓛 (raw (CLook.pre (to-look id))) (goes-look id id-is) $
                             calls_at ! fm CLook known_look (to-look id) (and_then ! (load ! (from ! (stop !)) (look ! 21 refl)) (and_then ! (load ! (from ! (stop !)) (look ! 33 refl)) (no_more !))) (λ v.
-                            use1 𝓛 (later (some (λ (y : X.Denot). (T0 ⊛ ‵ (X.own y (v ∷ []))) ⊛ raw (ensured 𝓛 look-ended look-clauses (κ₀, tt) (look-args id) tt y)))) (id⊢ 𝓤 _) $ await ! tt $ pick ! (λ y.
+                            use1 𝓛 (later (some (λ (y : X.Denot). (T0 ⊛ ‵ (X.own_val y (v ∷ []))) ⊛ raw (ensured 𝓛 look-ended look-clauses (κ₀, tt) (look-args id) tt y)))) (id⊢ 𝓤 _) $ await ! tt $ pick ! (λ y.
                             split ! $ move ! (1 ∷ []) $ use1 𝓛 (some (λ (z : Z.Denot × (U × U)). ‵ (lasts look-ended (κ₀, tt) (look-args id) z) ⊛ raw (fact 𝓤 (Looked h id y z.0)))) (id⊢ 𝓤 _) $ pick ! (λ z.
                             split ! $ move ! (1 ∷ []) $ heard ! (Looked h id y z.0) (λ y-said. fsplit ! $ move ! (1 ∷ []) $ drop ! $ move ! (1 ∷ []) $ split ! $ move ! (1 ∷ []) $
                             -- [the answer; T0; the station's last value; T12; IO; locals]
@@ -393,9 +403,9 @@ module _ (Z P O K X D L F Q C₀ E₀ : Held) (R : RattleType) (νl νr νc νe 
                             assigns ! (agg ! (and_then ! (load ! (from ! (stop !)) (look ! 21 refl)) (and_then ! (load ! (from ! (fld ! refl (stop !))) (look_in ! 45 (sub ! 1 refl (whole !)))) (no_more !)))) (from ! (stop !)) (init ! 19 refl (tt, (tt, (record { fits = room.0 }, tt)))) $
                             move ! (3 ∷ 0 ∷ 4 ∷ []) $ use3 𝓛 (raw (CShow.pre (to-show y v))) (goes-show y v) $
                             calls_at ! fm CShow known-show (to-show y v) (and_then ! (load ! (from ! (stop !)) (look ! 31 refl)) (and_then ! (load ! (from ! (stop !)) (look ! 47 refl)) (and_then ! (load ! (from ! (stop !)) (look ! 45 refl)) (and_then ! (load ! (from ! (stop !)) (look ! 17 refl)) (and_then ! (load ! (from ! (stop !)) (look ! 41 refl)) (no_more !)))))) (λ w.
-                            use1 𝓛 (later (some (λ (r : D.Denot). (T12 ⊛ ‵ (D.own r (w ∷ []))) ⊛ raw (ensured 𝓛 show-ended show-clauses (κ₁, (κ₂, tt)) (show-args y) tt r)))) (id⊢ 𝓤 _) $ await ! tt $ pick ! (λ r.
+                            use1 𝓛 (later (some (λ (r : D.Denot). (T12 ⊛ ‵ (D.own_val r (w ∷ []))) ⊛ raw (ensured 𝓛 show-ended show-clauses (κ₁, (κ₂, tt)) (show-args y) tt r)))) (id⊢ 𝓤 _) $ await ! tt $ pick ! (λ r.
                             split ! $ move ! (1 ∷ []) $ use1 𝓛 (some (λ (ws : U × (U × (U × (List ℕ × (U × U))))). ‵ (lasts show-ended (κ₁, (κ₂, tt)) (show-args y) ws) ⊛ raw (fact 𝓤 (Shows y s.now n ys c r ws.1.1.1.0)))) (id⊢ 𝓤 _) $ pick ! (λ ws.
-                            split ! $ move ! (1 ∷ []) $ heard ! (Shows y s.now n ys c r ws.1.1.1.0) (λ r-said. fsplit ! $ drop ! $ fsplit ! $ drop ! $ fsplit ! $ drop ! $ fsplit ! $ fsplit ! $ move ! (1 ∷ []) $ feq_l ! (λ len.
+                            split ! $ move ! (1 ∷ []) $ heard ! (Shows y s.now n ys c r ws.1.1.1.0) (λ r-said. fsplit ! $ drop ! $ fsplit ! $ drop ! $ fsplit ! $ drop ! $ fsplit ! $ fsplit ! $ fsplit ! $ move ! (1 ∷ []) $ feq_l ! (λ len. fjoin ! $
                             move ! (1 ∷ []) $ drop ! $ move ! (1 ∷ []) $ split ! $ move ! (1 ∷ []) $
                             -- [the result; T12; the last list; T0; the station's last value; locals]
                             peeks ! (still D) (Is (still D)) (shows 𝓛 (still D)) r (w ∷ []) (λ r-is. land ! (from ! (stop !)) (init ! 53 refl (Dk.fits r w r-is)) $
@@ -417,7 +427,7 @@ module _ (Z P O K X D L F Q C₀ E₀ : Held) (R : RattleType) (νl νr νc νe 
                               -- at the borrow's own lifetime, share and name
                               move ! (2 ∷ 3 ∷ []) $ use2 𝓛 (raw (CCall.pre (to-call k (framed l)))) (goes-call k (framed l) (builds k (framed l) k-is (Lk.frame_is l u is))) $
                               calls_at ! fm CCall known-call (to-call k (framed l)) (and_then ! (load ! (from ! (stop !)) (look ! 15 refl)) (and_then ! (load ! (from ! (stop !)) (look ! 13 refl)) (no_more !))) (λ v.
-                              use1 𝓛 (later (some (λ (y : O.Denot). (T0 ⊛ ‵ (O.own y (v ∷ []))) ⊛ raw (ensured 𝓛 call-ended call-clauses (κ₀, tt) (call-args k (framed l)) tt y)))) (id⊢ 𝓤 _) $ await ! tt $ pick ! (λ y.
+                              use1 𝓛 (later (some (λ (y : O.Denot). (T0 ⊛ ‵ (O.own_val y (v ∷ []))) ⊛ raw (ensured 𝓛 call-ended call-clauses (κ₀, tt) (call-args k (framed l)) tt y)))) (id⊢ 𝓤 _) $ await ! tt $ pick ! (λ y.
                               split ! $ move ! (1 ∷ []) $ use1 𝓛 (some (λ (z : Z.Denot × (U × U)). ‵ (lasts call-ended (κ₀, tt) (call-args k (framed l)) z) ⊛ raw (fact 𝓤 (Called h (asks k (framed l)) y z.0)))) (id⊢ 𝓤 _) $ pick ! (λ z.
                               split ! $ move ! (1 ∷ []) $ heard ! (Called h (asks k (framed l)) y z.0) (λ y-said. fsplit ! $ move ! (1 ∷ []) $ drop ! $ move ! (1 ∷ []) $ split ! $ move ! (1 ∷ []) $
                               -- [the answer; T0; the station's last value; T12; IO; locals]
@@ -426,9 +436,9 @@ module _ (Z P O K X D L F Q C₀ E₀ : Held) (R : RattleType) (νl νr νc νe 
                               assigns ! (agg ! (and_then ! (load ! (from ! (stop !)) (look ! 13 refl)) (and_then ! (load ! (from ! (fld ! refl (stop !))) (look_in ! 45 (sub ! 1 refl (whole !)))) (no_more !)))) (from ! (stop !)) (init ! 11 refl (tt, (tt, (record { fits = room.0 }, tt)))) $
                               move ! (3 ∷ 0 ∷ 4 ∷ []) $ use3 𝓛 (raw (CReply.pre (to-reply y k v))) (goes-reply y k v k-is) $
                               calls_at ! fm CReply known-reply (to-reply y k v) (and_then ! (load ! (from ! (stop !)) (look ! 27 refl)) (and_then ! (load ! (from ! (stop !)) (look ! 35 refl)) (and_then ! (load ! (from ! (stop !)) (look ! 47 refl)) (and_then ! (load ! (from ! (stop !)) (look ! 45 refl)) (and_then ! (load ! (from ! (stop !)) (look ! 9 refl)) (and_then ! (load ! (from ! (stop !)) (look ! 41 refl)) (no_more !))))))) (λ w.
-                              use1 𝓛 (later (some (λ (r : D.Denot). (T12 ⊛ ‵ (D.own r (w ∷ []))) ⊛ raw (ensured 𝓛 reply-ended reply-clauses (κ₁, (κ₂, tt)) (reply-args y k) tt r)))) (id⊢ 𝓤 _) $ await ! tt $ pick ! (λ r.
+                              use1 𝓛 (later (some (λ (r : D.Denot). (T12 ⊛ ‵ (D.own_val r (w ∷ []))) ⊛ raw (ensured 𝓛 reply-ended reply-clauses (κ₁, (κ₂, tt)) (reply-args y k) tt r)))) (id⊢ 𝓤 _) $ await ! tt $ pick ! (λ r.
                               split ! $ move ! (1 ∷ []) $ use1 𝓛 (some (λ (ws : U × (U × (U × (U × (List ℕ × (U × U)))))). ‵ (lasts reply-ended (κ₁, (κ₂, tt)) (reply-args y k) ws) ⊛ raw (fact 𝓤 (Replies y k s.now n ys c r ws.1.1.1.1.0)))) (id⊢ 𝓤 _) $ pick ! (λ ws.
-                              split ! $ move ! (1 ∷ []) $ heard ! (Replies y k s.now n ys c r ws.1.1.1.1.0) (λ r-said. fsplit ! $ drop ! $ fsplit ! $ drop ! $ fsplit ! $ drop ! $ fsplit ! $ drop ! $ fsplit ! $ fsplit ! $ move ! (1 ∷ []) $ feq_l ! (λ len.
+                              split ! $ move ! (1 ∷ []) $ heard ! (Replies y k s.now n ys c r ws.1.1.1.1.0) (λ r-said. fsplit ! $ drop ! $ fsplit ! $ drop ! $ fsplit ! $ drop ! $ fsplit ! $ drop ! $ fsplit ! $ fsplit ! $ fsplit ! $ move ! (1 ∷ []) $ feq_l ! (λ len. fjoin ! $
                               move ! (1 ∷ []) $ drop ! $ move ! (1 ∷ []) $ split ! $ move ! (1 ∷ []) $
                               -- [the result; T12; the last list; T0; the station's last value; locals]
                               peeks ! (still D) (Is (still D)) (shows 𝓛 (still D)) r (w ∷ []) (λ r-is. land ! (from ! (stop !)) (init ! 53 refl (Dk.fits r w r-is)) $
@@ -457,9 +467,9 @@ module _ (Z P O K X D L F Q C₀ E₀ : Held) (R : RattleType) (νl νr νc νe 
                         assigns ! (agg ! (and_then ! (load ! (from ! (stop !)) (look ! 8 refl)) (and_then ! (load ! (from ! (fld ! refl (stop !))) (look_in ! 46 (sub ! 1 refl (whole !)))) (no_more !)))) (from ! (stop !)) (init ! 6 refl (tt, (tt, (record { fits = room.0 }, tt)))) $
                         move ! (4 ∷ 5 ∷ []) $ use2 𝓛 (raw (CValue.pre (to-value w))) (goes-value w g w-is) $
                         calls_at ! fm CValue known-value (to-value w) (and_then ! (load ! (from ! (stop !)) (look ! 9 refl)) (and_then ! (load ! (from ! (stop !)) (look ! 27 refl)) (and_then ! (load ! (from ! (stop !)) (look ! 49 refl)) (and_then ! (load ! (from ! (stop !)) (look ! 47 refl)) (and_then ! (load ! (from ! (stop !)) (look ! 5 refl)) (and_then ! (load ! (from ! (stop !)) (look ! 43 refl)) (no_more !))))))) (λ v'.
-                        use1 𝓛 (later (some (λ (v : R.Denot). (T12 ⊛ ‵ (R.own v (v' ∷ []))) ⊛ raw (ensured 𝓛 value-ended value-clauses (κ₁, (κ₂, tt)) (value-args w) tt v)))) (id⊢ 𝓤 _) $ await ! tt $ pick ! (λ v.
+                        use1 𝓛 (later (some (λ (v : R.Denot). (T12 ⊛ ‵ (R.own_val v (v' ∷ []))) ⊛ raw (ensured 𝓛 value-ended value-clauses (κ₁, (κ₂, tt)) (value-args w) tt v)))) (id⊢ 𝓤 _) $ await ! tt $ pick ! (λ v.
                         split ! $ move ! (1 ∷ []) $ use1 𝓛 (some (λ (ws : U × (U × (U × (U × (List ℕ × (U × U)))))). ‵ (lasts value-ended (κ₁, (κ₂, tt)) (value-args w) ws) ⊛ raw (fact 𝓤 (Takes h w s.now n ys c v ws.1.1.1.1.0)))) (id⊢ 𝓤 _) $ pick ! (λ ws.
-                        split ! $ move ! (1 ∷ []) $ heard ! (Takes h w s.now n ys c v ws.1.1.1.1.0) (λ v-said. fsplit ! $ drop ! $ fsplit ! $ drop ! $ fsplit ! $ drop ! $ fsplit ! $ drop ! $ fsplit ! $ fsplit ! $ move ! (1 ∷ []) $ feq_l ! (λ len.
+                        split ! $ move ! (1 ∷ []) $ heard ! (Takes h w s.now n ys c v ws.1.1.1.1.0) (λ v-said. fsplit ! $ drop ! $ fsplit ! $ drop ! $ fsplit ! $ drop ! $ fsplit ! $ drop ! $ fsplit ! $ fsplit ! $ fsplit ! $ move ! (1 ∷ []) $ feq_l ! (λ len. fjoin ! $
                         move ! (1 ∷ []) $ drop ! $ move ! (1 ∷ []) $ split ! $ move ! (1 ∷ []) $
                         -- [the answer; T12; the last list; the cell; the open borrow; obs; auth; locals]
                         peeks ! R (Is R) (shows 𝓛 R) v (v' ∷ []) (λ v-is.
@@ -469,7 +479,7 @@ module _ (Z P O K X D L F Q C₀ E₀ : Held) (R : RattleType) (νl νr νc νe 
                         assigns ! (of_opd ! (load ! (from ! (fld ! refl (stop !))) (look_in ! 26 (sub ! 1 refl (whole !))))) (from ! (stop !)) (init ! 54 refl (Dk.fits (cur v) _ (Rk.second v v' v-is))) $
                         -- the borrow is closed, and what says its last value is made of its half of the ghost variable
                         owned ! (still Z) (Is (still Z)) Zk.makes (st v) _ (Rk.first v v' v-is) $ move ! (3 ∷ 0 ∷ 4 ∷ 5 ∷ 6 ∷ []) $ closes ! tt (still Z) (st v) (Z.val (st v) ∷ []) b o $
-                        use1 𝓛 (‵ (fres γ (Z.coded.code (st v)))) (𝓛.names.obs-res γ (Z.coded.code (st v))) $ move ! (1 ∷ []) $ drop ! $ nothing ! $ move ! (2 ∷ 0 ∷ []) $ join ! $
+                        use1 𝓛 (‵ (fres γ (Z.coded.code (st v)))) (𝓛.names.obs-res γ (Z.coded.code (st v))) $ fjoin ! $ nothing ! $ move ! (2 ∷ 0 ∷ []) $ join ! $
                         owned ! (still D) (Is (still D)) Dk.makes (cur v) _ (Rk.second v v' v-is) $ move ! (0 ∷ 3 ∷ 4 ∷ 1 ∷ 2 ∷ []) $
                         -- [the result; T12; the last list; T0; the station's last value; locals]
                         returns_within ! Post refl (look ! 53 refl) $ frees-behind 𝓛 5 (has (has (has (bare (bare (bare (bare (bare (bare (bare (has (has (bare (bare (bare (bare (bare (has (has (has (has (has (has (has (has none_left))))))))))))))))))))))))) refl $
@@ -486,7 +496,7 @@ module _ (Z P O K X D L F Q C₀ E₀ : Held) (R : RattleType) (νl νr νc νe 
       meets #line #call #reply #look #show #value 𝓣 known-line known-call known-reply known_look known-show known-value =
           walk_Meets 𝓛 ended stayed goes clauses (WpFn 𝓤 H 𝓣.C 𝓣.Λ (code #line #call #reply #look #show #value)) (WpFn-mono 𝓤 H 𝓛.laws 𝓣 (code #line #call #reply #look #show #value))
           (walked 𝓛 ended stayed clauses (WpFn 𝓤 H 𝓣.C 𝓣.Λ (code #line #call #reply #look #show #value))
-          (λ κs. (shr_vals, (shr_slice_vals, (uint_vals w64, (shr_slice_vals, ((λ y. D.val y ∷ []), tt))))))
+          (λ κs. (mut_vals, (shr_slice_vals, (uint_vals w64, (mut_slice_vals, ((λ y. D.val y ∷ []), tt))))))
           (λ κs. (mut_Tells (named 0) κs.0 (still Z), (shr_slice_Tells (named 1) κs.1.0 u8, (uint_Tells w64, (mut_slice_Tells (named 2) κs.1.1.0 u8, (Dk.tells, tt))))))
           (λ κs qs bounds a _ are. needs 𝓤 (Free a.1.1.1.0.now a.1.1.1.1.0) _ (λ free.
           (walk κs.0 κs.1.0 κs.1.1.0 qs.0 qs.1.0 qs.1.1.0 a.0.ref_ptr.0 a.0.ref_ptr.1 a.0.ghost_name a.0.now a.1.0 a.1.1.0 a.1.1.1.0.ref_ptr.0 a.1.1.1.0.ref_ptr.1 a.1.1.1.0.ghost_name a.1.1.1.0.now a.1.1.1.1.0

@@ -8,7 +8,7 @@ use mathlib.Core.List.{List, [], ◌∷◌}
 use mathlib.Core.Option.{Option, none, some as just}
 use Prim.Native.Nat.{ℕ}
 use seplogic.Ra.Ura.{Ura}
-use seplogic.Ra.TreeShare.{full_share}
+use base.Fraction.{full_share}
 use mir.Syntax.{Ty, Lifetime, Local, local}
 use mir.Val.{Val, vptr}
 use base.Logic.{SProp, ent, sep, ex, guard, emp, via, emp∗, comm∗}
@@ -60,7 +60,7 @@ module _ (Z : Held) (b : ℕ) where
     unfolding part_of
     local-in z p =
         qed 𝓛 (‵ (cell z) ∷ []) ∵ use1 𝓛 (‵ (cell_at full_share (Z.ty ∷ []) (Z.val z ∷ []) b 0)) (𝓛.laws.at_raw full_share Z.ty b 0 (Z.val z)) $
-        owned ! (row Z) (Is (row Z)) Zk.makes z (Z.val z ∷ []) p $ move ! (1 ∷ 0 ∷ []) $ fjoin ! $ fpack ! (List Val) (λ us. fsep (cell_at full_share (Z.ty ∷ []) us b 0) (Z.own z us)) (Z.val z ∷ []) $ done !
+        owned ! (row Z) (Is (row Z)) Zk.makes z (Z.val z ∷ []) p $ move ! (1 ∷ 0 ∷ []) $ fjoin ! $ fpack ! (List Val) (λ us. fsep (cell_at full_share (Z.ty ∷ []) us b 0) (Z.own_val z us)) (Z.val z ∷ []) $ done !
 
     local_out : (z : Z.Denot) → ent 𝓤 (sem 𝓛 (part_at (row Z) full_share z b 0)) (guard 𝓤 (Is (row Z) z (Z.val z ∷ [])) (sem 𝓛 (cell z)))
     unfolding part_of

@@ -7,8 +7,8 @@ use mathlib.Core.List.{[], ◌∷◌, List}
 use lib.Dec.{T, lit<}
 use lib.ListN.{length, get_or}
 use seplogic.Ra.Ura.{Ura}
-use seplogic.Ra.TreeShare.{full_share}
-use mir.Syntax.{Sym, Name, Ty, ty_ref, ty_ptr, ty_int, ty_bool, ty_array, ty_struct, tnil, tcons, mut, named, w16, w64, Fn, Local, local, value_local, place, Step as PStep, deref, field, copy, int, int_big, rv_opd, aggregate, op2, mul, offset, unsigned, addr_of, seq, assign, call, return}
+use base.Fraction.{full_share}
+use mir.Syntax.{Sym, Callee as Name, Ty, ty_ref, ty_ptr, ty_int, ty_bool, ty_array, ty_struct, tnil, tcons, mut, named, w16, w64, Fn, Local, local, value_local, place, Step as PStep, deref, field, copy, int, int_big, rv_opd, aggregate, op2, mul, offset, unsigned, addr_of, seq, assign, call, return}
 use mir.Val.{Val, Fits, WT, has_ty, of_list, vbool, vint, vptr, vstruct, vnil, vcons}
 use base.Logic.{SProp, ent, sep, emp, via, fst∗, id⊢, guard_i}
 use base.Fml.{GName, Lft, Share, ftrue, fat, flft, fobs, fbor}
@@ -102,6 +102,8 @@ module _ (S P O : Held) (Q : RattleType) (νq : Sym) (spot : Q.Denot → ℕ) (t
   code #routed #looked = record {
     lifetimes = 1;
     outlives = [];
+    ty_params = [];
+    givens = 0;
     params = 2;
     locals = values (O.ty ∷ ty_ref (named 0) mut (pointee Eight.written) ∷ P.ty ∷ ty_array (ty_int w16) 8 ∷ spot_ty ∷ ty_int w64 ∷ ty_ptr ∷ ty_ptr ∷ ty_int w16 ∷ ty_ptr ∷ ty_ptr ∷ ty_int w16 ∷ ty_ptr ∷ ty_ptr ∷ ty_int w16 ∷ ty_ptr ∷ ty_ptr ∷ ty_int w16 ∷ ty_ptr ∷ ty_ptr ∷ ty_int w16 ∷ ty_ptr ∷ ty_ptr ∷ ty_int w16 ∷ ty_ptr ∷ ty_ptr ∷ ty_int w16 ∷ ty_ptr ∷ ty_ptr ∷ ty_int w16 ∷ ty_int w64 ∷ ty_ptr ∷ ty_ptr ∷ S.ty ∷ []);
     body =
@@ -226,7 +228,7 @@ module _ (S P O : Held) (Q : RattleType) (νq : Sym) (spot : Q.Denot → ℕ) (t
               -- where the look goes
               nothing ! $ use1 𝓛 (raw (Routed.pre to-routed)) (goes-routed (vint w16 (ident (get_or xs 0 none)) ∷ vint w16 (ident (get_or xs 1 none)) ∷ vint w16 (ident (get_or xs 2 none)) ∷ vint w16 (ident (get_or xs 3 none)) ∷ vint w16 (ident (get_or xs 4 none)) ∷ vint w16 (ident (get_or xs 5 none)) ∷ vint w16 (ident (get_or xs 6 none)) ∷ vint w16 (ident (get_or xs 7 none)) ∷ [], ((refl, refl), (((refl, (sight.got (get_or xs 0 none) g0).1), ((refl, (sight.got (get_or xs 1 none) g1).1), ((refl, (sight.got (get_or xs 2 none) g2).1), ((refl, (sight.got (get_or xs 3 none) g3).1), ((refl, (sight.got (get_or xs 4 none) g4).1), ((refl, (sight.got (get_or xs 5 none) g5).1), ((refl, (sight.got (get_or xs 6 none) g6).1), ((refl, (sight.got (get_or xs 7 none) g7).1), tt)))))))))))) $
               calls_at ! fm Routed routed-known to-routed (and_then ! (load ! (from ! (stop !)) (look ! 67 refl)) (and_then ! (load ! (from ! (stop !)) (look ! 69 refl)) (no_more !))) (λ u.
-              use1 𝓛 (later (some (λ (r : Q.Denot). (‵ ftrue ⊛ ‵ (Q.own r (u ∷ []))) ⊛ raw (routed-ensures (ids xs) a r)))) (id⊢ 𝓤 _) $ await ! tt $ pick ! (λ r.
+              use1 𝓛 (later (some (λ (r : Q.Denot). (‵ ftrue ⊛ ‵ (Q.own_val r (u ∷ []))) ⊛ raw (routed-ensures (ids xs) a r)))) (id⊢ 𝓤 _) $ await ! tt $ pick ! (λ r.
               split ! $ move ! (1 ∷ []) $ use1 𝓛 (raw (fact 𝓤 ((r ≡ route (ids xs) a) × (spot r < 8)))) (routed-said (ids xs) a r) $ heard ! ((r ≡ route (ids xs) a) × (spot r < 8)) (λ r-told. split ! $ drop ! $
               peeks ! Q (Is Q) (shows 𝓛 Q) r (u ∷ []) (λ u-is.
               let i : ℕ = spot r in
@@ -242,7 +244,7 @@ module _ (S P O : Held) (Q : RattleType) (νq : Sym) (spot : Q.Denot → ℕ) (t
               assigns ! (of_opd ! (load ! (from ! (hop ! (look ! 10 refl) (all.way b (place_of size o i)))) (look_in ! 0 (all.cell full_share b (place_of size o i) h)))) (from ! (stop !)) (init ! 8 refl (Sk.fits h _ g)) $ elem_back ! (row S) full_share xs i none (S.val h ∷ []) b o (in-eight len i within) $
               nothing ! $ use1 𝓛 (raw (Looked.pre (to-looked h r))) (goes-looked h r g r-is) $
               calls_at ! fm Looked looked-known (to-looked h r) (and_then ! (load ! (from ! (stop !)) (look ! 7 refl)) (and_then ! (load ! (from ! (stop !)) (look ! 65 refl)) (no_more !))) (λ w.
-              use1 𝓛 (later (some (λ (v : O.Denot). (‵ ftrue ⊛ ‵ (O.own v (w ∷ []))) ⊛ raw (looked-ensures h r v)))) (id⊢ 𝓤 _) $ await ! tt $ pick ! (λ v.
+              use1 𝓛 (later (some (λ (v : O.Denot). (‵ ftrue ⊛ ‵ (O.own_val v (w ∷ []))) ⊛ raw (looked-ensures h r v)))) (id⊢ 𝓤 _) $ await ! tt $ pick ! (λ v.
               split ! $ move ! (1 ∷ []) $ use1 𝓛 (raw (fact 𝓤 (v ≡ f h r))) (looked-said h r v) $ heard ! (v ≡ f h r) (λ e. split ! $ drop ! $
               peeks ! (row O) (Is (row O)) (shows 𝓛 (row O)) v (w ∷ []) (λ v-is.
               let y-is : Is (row O) v (O.val v ∷ []) = subst (λ (us : List Val). Is (row O) v us) (Ok.tells v (w ∷ []) v-is) v-is in

@@ -12,8 +12,8 @@ use lib.Dec.{T}
 use lib.ListN.{length}
 use lib.WfN.{lt-wf_rel}
 use seplogic.Ra.Ura.{Ura}
-use seplogic.Ra.TreeShare.{full_share}
-use mir.Syntax.{Sym, Name, Ty, ty_ref, ty_int, ty_bool, ty_struct, tnil, tcons, imm, mut, named, erased, w8, w64, Fn, Local, Body, local, value_local, memory_slot, place, deref, field, copy, rv_opd, aggregate, addr_of, seq, assign, call, cond, block, loop, exit, skip, return}
+use base.Fraction.{full_share}
+use mir.Syntax.{Sym, Callee as Name, Ty, ty_ref, ty_int, ty_bool, ty_struct, tnil, tcons, imm, mut, named, erased, w8, w64, Fn, Local, Body, local, value_local, memory_slot, place, deref, field, copy, rv_opd, aggregate, addr_of, seq, assign, call, cond, block, loop, exit, skip, return}
 use mir.Val.{Val, vptr, vint, vbool, vstruct, vnil, vcons, WT, has_ty}
 use base.Logic.{SProp, ent, sep, ex, guard, emp, id⊢}
 use base.Fml.{Lft, Share, GName, Fml, ftrue, fat, flft, fres}
@@ -29,7 +29,7 @@ use denote.RattleType.{RattleType, owns}
 use denote.Exit.{yes}
 use denote.Laws.{Is, Makes, shows}
 use denote.Memory.{pointee}
-use denote.Plain.{uint_vals, uint_Tells, uint_Makes, uint_Lawful}
+use denote.Plain.{uint_row_laws, uint_vals, uint_Tells, uint_Makes, uint_Lawful}
 use denote.Builtin.{u8, usize}
 use denote.Ref.{Bor, MutBor}
 use denote.Slice.{slice_ty, slice_val, shr_slice_vals, mut_slice_vals, ShrSlice, MutSlice, finally, shr_slice_Tells, mut_slice_Tells, shr_slice_Lawful, mut_slice_Lawful, shr_slice_copy}
@@ -51,6 +51,9 @@ Bytes = List ℕ
 
 abbrev ref : ℕ → ℕ → GName → Bytes → MutBor Bytes
 ref b o γ ys = record { ref_ptr = (b, o); ghost_name = γ; now = ys }
+
+abbrev shared : ℕ → ℕ → Bytes → Bor Bytes
+shared b o xs = record { ref_ptr = (b, o); now = xs }
 
 -- what is ahead of the loop: the turn that begins, and what is left after it; and nothing where there is no more
 abbrev ahead : Bool → ℕ → ℕ
@@ -139,6 +142,8 @@ module _ (Z : Held) (Q R : RattleType) (ν μ : Sym) (n₀ n₁ n₂ left : Q.De
   code #begin #on = record {
     lifetimes = 2;
     outlives = [];
+    ty_params = [];
+    givens = 0;
     params = 4;
     locals = locals;
     body = seq (assign (place 5 []) (rv_opd (copy (place 1 [])))) (seq (call #begin (copy (place 2 []) ∷ copy (place 3 []) ∷ []) (place 6 [])) (seq (block (loop (turn #on))) leave));
@@ -174,16 +179,16 @@ module _ (Z : Held) (Q R : RattleType) (ν μ : Sym) (n₀ n₁ n₂ left : Q.De
       abbrev IsQ : Q.Denot → Type 0
       IsQ c = Is Q c (cur_val c ∷ [])
 
-      module _ (κ₀ κ₁ : Lft) (q₀ q₁ : Share) (z₀ : Z.Denot) (bi oi : ℕ) (γi : GName) (xs : Bytes) (n : ℕ) (bo oo : ℕ) (γo : GName) (ys : Bytes)
-          (z-is : Is (still Z) z₀ (Z.val z₀ ∷ [])) (inp-is : Is (ShrSlice (named 0) κ₀ u8) (ref bi oi γi xs) (slice_val (bi, oi) (length xs) ∷ [])) (n-is : Is usize n (vint w64 n ∷ [])) (out-is : Is (MutSlice (named 1) κ₁ u8) (ref bo oo γo ys) (slice_val (bo, oo) (length ys) ∷ [])) (pre : Pre xs n ys) where
+      module _ (κ₀ κ₁ : Lft) (q₀ q₁ : Share) (z₀ : Z.Denot) (bi oi : ℕ) (xs : Bytes) (n : ℕ) (bo oo : ℕ) (γo : GName) (ys : Bytes)
+          (z-is : Is (still Z) z₀ (Z.val z₀ ∷ [])) (inp-is : Is (ShrSlice (named 0) κ₀ u8) (shared bi oi xs) (slice_val (bi, oi) (length xs) ∷ [])) (n-is : Is usize n (vint w64 n ∷ [])) (out-is : Is (MutSlice (named 1) κ₁ u8) (ref bo oo γo ys) (slice_val (bo, oo) (length ys) ∷ [])) (pre : Pre xs n ys) where
         abbrev vi : Val
         vi = slice_val (bi, oi) (length xs)
 
         abbrev vo : Val
         vo = slice_val (bo, oo) (length ys)
 
-        abbrev x : Z.Denot × (Bor Bytes × (ℕ × (Bor Bytes × Unit {0})))
-        x = (z₀, (ref bi oi γi xs, (n, (ref bo oo γo ys, tt))))
+        abbrev x : Z.Denot × (Bor Bytes × (ℕ × (MutBor Bytes × Unit {0})))
+        x = (z₀, (shared bi oi xs, (n, (ref bo oo γo ys, tt))))
 
         abbrev at : List Val × (List Val × (List Val × (List Val × Unit {0})))
         at = (Z.val z₀ ∷ [], (vi ∷ [], (vint w64 n ∷ [], (vo ∷ [], tt))))
@@ -196,7 +201,7 @@ module _ (Z : Held) (Q R : RattleType) (ν μ : Sym) (n₀ n₁ n₂ left : Q.De
 
         -- `inp`, and `out` at what lies there
         abbrev Inp : Fml
-        Inp = (ShrSlice (named 0) κ₀ u8).own_val (ref bi oi γi xs) (vi ∷ [])
+        Inp = (ShrSlice (named 0) κ₀ u8).own_val (shared bi oi xs) (vi ∷ [])
 
         abbrev OutAt : Lft → GName → Bytes → Fml
         OutAt κ δ zs = (MutSlice (named 1) κ u8).own_val (ref bo oo δ zs) (vo ∷ [])
@@ -213,7 +218,7 @@ module _ (Z : Held) (Q R : RattleType) (ν μ : Sym) (n₀ n₁ n₂ left : Q.De
 
         -- ---- the call that makes the first cursor
         abbrev to-begin : Begin.Ghost
-        to-begin = (((κ₀, tt), (q₀, tt), tt, (ref bi oi γi xs, (n, tt)), (vi ∷ [], (vint w64 n ∷ [], tt))), tt)
+        to-begin = (((κ₀, tt), (q₀, tt), tt, (shared bi oi xs, (n, tt)), (vi ∷ [], (vint w64 n ∷ [], tt))), tt)
 
         goes-begin : ent 𝓤 (sep 𝓤 (A.lft κ₀ q₀) (sem 𝓛 Inp)) (Begin.pre to-begin)
         goes-begin =
@@ -223,7 +228,7 @@ module _ (Z : Held) (Q R : RattleType) (ν μ : Sym) (n₀ n₁ n₂ left : Q.De
         gives-begin : (w : Val) → ent 𝓤 (Begin.post to-begin w) (H.⇛ (ex 𝓤 (λ (r : Q.Denot). guard 𝓤 (Is Q r (w ∷ []) × Begun xs n r) (A.lft κ₀ q₀))))
         gives-begin w =
             qed 𝓛 (raw (Begin.post to-begin w) ∷ []) ∵ updating ! $
-            use1 𝓛 (later (some (λ (r : Q.Denot). ((‵ (flft κ₀ q₀) ⊛ ‵ ftrue) ⊛ ‵ (Q.own r (w ∷ []))) ⊛ some (λ (ws : Lasts begin-ended (κ₀, tt) to-begin.0.3). ‵ (lasts begin-ended (κ₀, tt) to-begin.0.3 ws) ⊛ raw (fact 𝓤 (Begun xs n r)))))) (id⊢ 𝓤 _) $ await ! tt $ pick ! (λ r.
+            use1 𝓛 (later (some (λ (r : Q.Denot). ((‵ (flft κ₀ q₀) ⊛ ‵ ftrue) ⊛ ‵ (Q.own_val r (w ∷ []))) ⊛ some (λ (ws : Lasts begin-ended (κ₀, tt) to-begin.0.3). ‵ (lasts begin-ended (κ₀, tt) to-begin.0.3 ws) ⊛ raw (fact 𝓤 (Begun xs n r)))))) (id⊢ 𝓤 _) $ await ! tt $ pick ! (λ r.
             split ! $ move ! (1 ∷ []) $ pick ! (λ ws. split ! $ move ! (1 ∷ []) $ heard ! (Begun xs n r) (λ begun. drop ! $
             split ! $ move ! (1 ∷ []) $ peeks ! Q (Is Q) (shows 𝓛 Q) r (w ∷ []) (λ is. drop ! $ split ! $ at_once ! $ show ! (λ (r' : Q.Denot). guard 𝓤 (Is Q r' (w ∷ []) × Begun xs n r') (A.lft κ₀ q₀)) r $ check ! (is, begun) $ keep ! (0 ∷ []) $ done !))))
 
@@ -233,7 +238,7 @@ module _ (Z : Held) (Q R : RattleType) (ν μ : Sym) (n₀ n₁ n₂ left : Q.De
           κs = (α ∷ [], (κ₀, (β ∷ [], tt)))
 
           abbrev to-on : On.Ghost
-          to-on = ((κs, (full_share, (q₀, (full_share, tt))), tt, (record { ref_ptr = (l5, 0); ghost_name = δ; now = z }, (ref bi oi γi xs, (n, (ref bo oo ε zs, (c, tt))))), (vptr l5 0 ∷ [], (vi ∷ [], (vint w64 n ∷ [], (vo ∷ [], (cur_val c ∷ [], tt)))))), tt)
+          to-on = ((κs, (full_share, (q₀, (full_share, tt))), tt, (record { ref_ptr = (l5, 0); ghost_name = δ; now = z }, (shared bi oi xs, (n, (ref bo oo ε zs, (c, tt))))), (vptr l5 0 ∷ [], (vi ∷ [], (vint w64 n ∷ [], (vo ∷ [], (cur_val c ∷ [], tt)))))), tt)
 
           abbrev Passed : List (Item 𝓤)
           Passed = ‵ (flft (α ∷ []) full_share) ∷ ‵ (flft κ₀ q₀) ∷ ‵ (flft (β ∷ []) full_share) ∷ ‵ (lent_ref Z l5 (named 0) (α ∷ []) δ z) ∷ ‵ Inp ∷ ‵ (OutAt (β ∷ []) ε zs) ∷ []
@@ -257,15 +262,15 @@ module _ (Z : Held) (Q R : RattleType) (ν μ : Sym) (n₀ n₁ n₂ left : Q.De
           gives-on : (w : Val) → ent 𝓤 (On.post to-on w) (H.⇛ (ex 𝓤 (λ (r : Q.Denot). ex 𝓤 (λ (z' : Z.Denot). ex 𝓤 (Had w r z')))))
           gives-on w =
               qed 𝓛 (raw (On.post to-on w) ∷ []) ∵ updating ! $
-              use1 𝓛 (later (some (λ (r : Q.Denot). ((‵ (flft (α ∷ []) full_share) ⊛ (‵ (flft κ₀ q₀) ⊛ (‵ (flft (β ∷ []) full_share) ⊛ ‵ ftrue))) ⊛ ‵ (Q.own r (w ∷ []))) ⊛ some (λ (ws : Lasts on-ended κs to-on.0.3). ‵ (lasts on-ended κs to-on.0.3 ws) ⊛ raw (fact 𝓤 (Went z xs n zs c r ws.0 ws.1.1.1.0)))))) (id⊢ 𝓤 _) $ await ! tt $ pick ! (λ r.
+              use1 𝓛 (later (some (λ (r : Q.Denot). ((‵ (flft (α ∷ []) full_share) ⊛ (‵ (flft κ₀ q₀) ⊛ (‵ (flft (β ∷ []) full_share) ⊛ ‵ ftrue))) ⊛ ‵ (Q.own_val r (w ∷ []))) ⊛ some (λ (ws : Lasts on-ended κs to-on.0.3). ‵ (lasts on-ended κs to-on.0.3 ws) ⊛ raw (fact 𝓤 (Went z xs n zs c r ws.0 ws.1.1.1.0)))))) (id⊢ 𝓤 _) $ await ! tt $ pick ! (λ r.
               split ! $ move ! (1 ∷ []) $ pick ! (λ ws. split ! $ move ! (1 ∷ []) $ heard ! (Went z xs n zs c r ws.0 ws.1.1.1.0) (λ went.
-              -- the last values: the value's; nothing of inp and of n; out's, with the count
-              fsplit ! $ move ! (1 ∷ []) $ fsplit ! $ drop ! $ fsplit ! $ drop ! $ fsplit ! $ fsplit ! $ move ! (1 ∷ []) $ feq_l ! (λ count.
-              -- [out's; the rest; the value's; the tokens and the result]
-              move ! (3 ∷ []) $ split ! $ move ! (1 ∷ []) $ peeks ! Q (Is Q) (shows 𝓛 Q) r (w ∷ []) (λ is. drop ! $ split ! $ move ! (1 ∷ []) $ split ! $ move ! (1 ∷ []) $ split ! $
-              -- [β; true; κ₀; α; out's; the rest; the value's]
+              -- the last values: the value's, with its borrow; nothing of inp and of n; out's, with the count and its borrow
+              fsplit ! $ fsplit ! $ move ! (2 ∷ []) $ fsplit ! $ drop ! $ fsplit ! $ drop ! $ fsplit ! $ fsplit ! $ fsplit ! $ move ! (1 ∷ []) $ feq_l ! (λ count.
+              -- [out's; its borrow; the rest; the value's; its borrow; the tokens and the result]
+              move ! (5 ∷ []) $ split ! $ move ! (1 ∷ []) $ peeks ! Q (Is Q) (shows 𝓛 Q) r (w ∷ []) (λ is. drop ! $ split ! $ move ! (1 ∷ []) $ split ! $ move ! (1 ∷ []) $ split ! $
+              -- [β; true; κ₀; α; out's; its borrow; the rest; the value's; its borrow]
               at_once ! $ show ! (λ (r' : Q.Denot). ex 𝓤 (λ (z' : Z.Denot). ex 𝓤 (Had w r' z'))) r $ show ! (λ (z' : Z.Denot). ex 𝓤 (Had w r z')) ws.0 $ show ! (Had w r ws.0) ws.1.1.1.0 $ check ! (is, count, went) $
-              keep ! (3 ∷ 2 ∷ 0 ∷ 6 ∷ 4 ∷ []) $ join ! $ join ! $ join ! $ join ! $ done !)))))
+              keep ! (3 ∷ 2 ∷ 0 ∷ 7 ∷ 4 ∷ []) $ join ! $ join ! $ join ! $ join ! $ done !)))))
 
         -- ---- the exit
         abbrev Kept : Bytes → List (Item 𝓤)
@@ -310,7 +315,7 @@ module _ (Z : Held) (Q R : RattleType) (ν μ : Sym) (n₀ n₁ n₂ left : Q.De
                 move ! (30 ∷ 29 ∷ []) $
                 use2 𝓛 (later (some (λ (ε : GName). ‵ (OutAt (β ∷ []) ε y.2) ⊛ ‵ (LentAgain u8 κ₁ (β ∷ []) q₁ γo bo oo ε y.2)))) (lends-again-at u8 κ₁ (β ∷ []) q₁ γo bo oo (length ys) 𝓛 (named 1) (named 1) y.2 y.5) $ await ! tt $ pick ! (λ ε. split ! $
                 -- `inp` is copied, and what the callee asks is put together
-                move ! (30 ∷ []) $ use1 𝓛 (‵ Inp ⊛ ‵ Inp) ((shr_slice_copy 𝓛 (named 0) κ₀ u8).twice (ref bi oi γi xs) (vi ∷ [])) $ split ! $
+                move ! (30 ∷ []) $ use1 𝓛 (‵ Inp ⊛ ‵ Inp) ((shr_slice_copy 𝓛 (named 0) κ₀ u8 (uint_row_laws w8)).twice (shared bi oi xs) (vi ∷ [])) $ split ! $
                 move ! (7 ∷ 31 ∷ 6 ∷ 4 ∷ 0 ∷ 2 ∷ []) $ group ! 6 $ use1 𝓛 (raw (On.pre (to-on l5 α β δ ε y.0 y.1 y.2 y.4 (frees z₀ xs n y.0 y.1 y.2 y.6 more-is)))) (goes_on l5 α β δ ε y.0 y.1 y.2 y.4 (frees z₀ xs n y.0 y.1 y.2 y.6 more-is)) $
                 -- [what the callee asks; inp; the holder's part of out; the lender's part; the locals from 4, with the value's cell away]
                 calls_at_last ! (fm_of 𝓤 H 𝓛.laws 𝓣) On ons (to-on l5 α β δ ε y.0 y.1 y.2 y.4 (frees z₀ xs n y.0 y.1 y.2 y.6 more-is)) (and_then ! (load ! (from ! (stop !)) (look ! 10 refl)) (and_then ! (load ! (from ! (stop !)) (look ! 21 refl)) (and_then ! (load ! (from ! (stop !)) (look ! 19 refl)) (and_then ! (load ! (from ! (stop !)) (look ! 6 refl)) (and_then ! (load ! (from ! (stop !)) (look ! 14 refl)) (no_more !)))))) (λ w.
@@ -335,7 +340,7 @@ module _ (Z : Held) (Q R : RattleType) (ν μ : Sym) (n₀ n₁ n₂ left : Q.De
           walk =
               qed 𝓛 ((‵ (flft κ₀ q₀) ⊛ (‵ (flft κ₁ q₁) ⊛ ‵ ftrue)) ∷ ‵ (owns (still Z ∷ ShrSlice (named 0) κ₀ u8 ∷ usize ∷ MutSlice (named 1) κ₁ u8 ∷ []) x at) ∷ []) ∵ enter ! 𝓣.C 𝓣.Λ (code #begin #on) (Z.val z₀ ∷ vi ∷ vint w64 n ∷ vo ∷ []) _ $
               alloc1 ! (λ l0. alloc1 ! (λ l1. alloc1 ! (λ l2. alloc1 ! (λ l3. alloc1 ! (λ l4. alloc1 ! (λ l5. alloc1 ! (λ l6. alloc1 ! (λ l7. alloc1 ! (λ l8. alloc1 ! (λ l9. alloc1 ! (λ l10. alloc1 ! (λ l11. alloc0 ! $ params1 ! $
-              pass1 ! (init ! 20 refl (Zk.fits z₀ _ z-is)) $ pass1 ! (init ! 18 refl ((shr_slice_Lawful 𝓛 (named 0) κ₀ u8).typed (ref bi oi γi xs) (vi ∷ []) inp-is).0) $ pass1 ! (init ! 16 refl ((uint_Lawful 𝓛 w64).typed n _ n-is).0) $
+              pass1 ! (init ! 20 refl (Zk.fits z₀ _ z-is)) $ pass1 ! (init ! 18 refl ((shr_slice_Lawful 𝓛 (named 0) κ₀ u8).typed (shared bi oi xs) (vi ∷ []) inp-is).0) $ pass1 ! (init ! 16 refl ((uint_Lawful 𝓛 w64).typed n _ n-is).0) $
               pass1 ! (init ! 14 refl ((mut_slice_Lawful 𝓛 (named 1) κ₁ u8).typed (ref bo oo γo ys) (vo ∷ []) out-is).0) $ pass0 ! $
               -- what is had of the parameters is taken apart
               move ! (25 ∷ []) $ fsplit ! $ drop ! $ fsplit ! $ move ! (1 ∷ []) $ fsplit ! $ drop ! $ fsplit ! $ move ! (27 ∷ []) $ split ! $ move ! (1 ∷ []) $ split ! $
@@ -343,7 +348,7 @@ module _ (Z : Held) (Q R : RattleType) (ν μ : Sym) (n₀ n₁ n₂ left : Q.De
               keep ! (6 ∷ 7 ∷ 8 ∷ 9 ∷ 10 ∷ 11 ∷ 12 ∷ 13 ∷ 14 ∷ 15 ∷ 16 ∷ 17 ∷ 18 ∷ 19 ∷ 20 ∷ 21 ∷ 22 ∷ 23 ∷ 24 ∷ 25 ∷ 26 ∷ 27 ∷ 28 ∷ 29 ∷ 2 ∷ 5 ∷ 0 ∷ 3 ∷ []) $
               assigns ! (of_opd ! (load ! (from ! (stop !)) (look ! 20 refl))) (from ! (stop !)) (init ! 12 refl (Zk.fits z₀ _ z-is)) $
               -- the first cursor
-              move ! (25 ∷ []) $ use1 𝓛 (‵ Inp ⊛ ‵ Inp) ((shr_slice_copy 𝓛 (named 0) κ₀ u8).twice (ref bi oi γi xs) (vi ∷ [])) $ split ! $ move ! (26 ∷ 0 ∷ []) $ use2 𝓛 (raw (Begin.pre to-begin)) goes-begin $
+              move ! (25 ∷ []) $ use1 𝓛 (‵ Inp ⊛ ‵ Inp) ((shr_slice_copy 𝓛 (named 0) κ₀ u8 (uint_row_laws w8)).twice (shared bi oi xs) (vi ∷ [])) $ split ! $ move ! (26 ∷ 0 ∷ []) $ use2 𝓛 (raw (Begin.pre to-begin)) goes-begin $
               -- [what the callee asks; inp; the locals from 2; out's token; out]
               calls_at ! (fm_of 𝓤 H 𝓛.laws 𝓣) Begin begins to-begin (and_then ! (load ! (from ! (stop !)) (look ! 20 refl)) (and_then ! (load ! (from ! (stop !)) (look ! 18 refl)) (no_more !))) (λ w.
               use1 𝓛 (later (some (λ (c : Q.Denot). given (Is Q c (w ∷ []) × Begun xs n c) (‵ (flft κ₀ q₀))))) (gives-begin w) $ await ! tt $ pick ! (λ c. learn ! (λ b.
@@ -360,5 +365,5 @@ module _ (Z : Held) (Q R : RattleType) (ν μ : Sym) (n₀ n₁ n₂ left : Q.De
           walk_Meets 𝓛 ended stayed goes clauses (WpFn 𝓤 H 𝓣.C 𝓣.Λ (code #begin #on)) (WpFn-mono 𝓤 H 𝓛.laws 𝓣 (code #begin #on))
           (walked 𝓛 ended stayed clauses (WpFn 𝓤 H 𝓣.C 𝓣.Λ (code #begin #on))
           (λ κs. ((λ z. Z.val z ∷ []), (shr_slice_vals, (uint_vals w64, (mut_slice_vals, tt))))) (λ κs. (Zk.tells, (shr_slice_Tells (named 0) κs.0 u8, (uint_Tells w64, (mut_slice_Tells (named 1) κs.1.0 u8, tt)))))
-          (λ κs qs bounds a _ are. needs 𝓤 (Pre a.1.0.now a.1.1.0 a.1.1.1.0.now) _ (λ pre. walk κs.0 κs.1.0 qs.0 qs.1.0 a.0 a.1.0.ref_ptr.0 a.1.0.ref_ptr.1 a.1.0.ghost_name a.1.0.now a.1.1.0 a.1.1.1.0.ref_ptr.0 a.1.1.1.0.ref_ptr.1 a.1.1.1.0.ghost_name a.1.1.1.0.now
+          (λ κs qs bounds a _ are. needs 𝓤 (Pre a.1.0.now a.1.1.0 a.1.1.1.0.now) _ (λ pre. walk κs.0 κs.1.0 qs.0 qs.1.0 a.0 a.1.0.ref_ptr.0 a.1.0.ref_ptr.1 a.1.0.now a.1.1.0 a.1.1.1.0.ref_ptr.0 a.1.1.1.0.ref_ptr.1 a.1.1.1.0.ghost_name a.1.1.1.0.now
           are.0 are.1.0 are.1.1.0 are.1.1.1.0 pre #begin #on 𝓣 begins ons)))

@@ -42,7 +42,7 @@ module _ (T : Declared) (L : LL.Laws T) (n : ℕ) where
     makes = Array-Makes 𝓛 (row T) (LL.makes T pl 𝓛) n;
   }
 
-  each_in : (ds : List T.D) (us : List Val) → shadow (each T.D (row T).own ds us) → shadow (each (field T).row.Denot (field T).row.own_val (map T.to ds) us)
+  each_in : (ds : List T.D) (us : List Val) → shadow (each T.D (row T).own_val ds us) → shadow (each (field T).row.Denot (field T).row.own_val (map T.to ds) us)
   each_in [] [] s = tt
   each_in [] (u ∷ us) s = s
   each_in (d ∷ ds) [] s = s
@@ -51,7 +51,7 @@ module _ (T : Declared) (L : LL.Laws T) (n : ℕ) where
   pub in_field : (ds : List T.D) (vs : List Val) → Is (Array (row T) n) ds vs → Is (array_field (field T) n).row (map T.to ds) vs
   in_field ds vs p = (p.0, ((p.1.0.0, length-map ds T.to ∙ p.1.0.1), each_in ds p.0 p.1.1))
 
-  each-out : (ds : List T.D) (us : List Val) → shadow (each (field T).row.Denot (field T).row.own_val (map T.to ds) us) → shadow (each T.D (row T).own ds us)
+  each-out : (ds : List T.D) (us : List Val) → shadow (each (field T).row.Denot (field T).row.own_val (map T.to ds) us) → shadow (each T.D (row T).own_val ds us)
   each-out [] [] s = tt
   each-out [] (u ∷ us) s = s
   each-out (d ∷ ds) [] s = s
@@ -77,7 +77,7 @@ module _ (T : Declared) (L : LL.Laws T) (n : ℕ) where
   cells-set ds k d = sym (ap (map (LL.tuple_val T L)) (map-set T.to ds k d) ∙ map-set (LL.tuple_val T L) (map T.to ds) k (T.to d))
 
   abbrev Each : List T.D → List Val → Type 0
-  Each ds us = shadow (each T.D (row T).own ds us)
+  Each ds us = shadow (each T.D (row T).own_val ds us)
 
   pub cells-length : (ds : List T.D) (vs : List Val) → Is (array_field (field T) n).row (map T.to ds) vs → length (cells ds) ≡ n
   cells-length ds vs p = length-map (map T.to ds) (LL.tuple_val T L) ∙ p.1.0.1

@@ -3,9 +3,9 @@ use mathlib.Core.Path.{◌≡◌, refl}
 use Prim.Native.Nat.{ℕ}
 use mathlib.Core.List.{[], ◌∷◌, List}
 use seplogic.Ra.Ura.{Ura}
-use seplogic.Ra.TreeShare.{full_share}
+use base.Fraction.{full_share}
 use lib.Dec.{T}
-use mir.Syntax.{Sym, Name, Ty, ty_ref, ty_struct, tnil, tcons, mut, named, Written, Width, Fn, local, value_local, place, deref, field, copy, rv_opd, seq, assign, call, return}
+use mir.Syntax.{Sym, Callee as Name, Ty, ty_ref, ty_struct, tnil, tcons, mut, named, Written, Width, Fn, local, value_local, place, deref, field, copy, rv_opd, seq, assign, call, return}
 use mir.Val.{Val, vptr, vint, vstruct, vnil, vcons, WT, has_ty}
 use base.Logic.{SProp, ent, sep, emp, via, comm∗, mono_l, emp∗, fst∗, id⊢}
 use base.Stored.{Coded}
@@ -52,9 +52,11 @@ pub record Held : Type 2 where
   pub ty : Ty
   pub written : Written
   pub reaches : List (Written × List Ty)
-  pub own : Denot → List Val → Fml
+  pub lives : Lft
+  pub own_val : Denot → List Val → Fml
   pub exit : Kept → Exit Denot
   pub coded : Coded Denot
+  pub shr_at : Denot → ℕ → ℕ → Lft → Fml
   pub val : Denot → Val
 
 abbrev pub held : (R : RattleType) → (R.Denot → Val) → Held
@@ -63,9 +65,11 @@ held R val = record {
   ty = lone R.mir;
   written = R.written;
   reaches = R.reaches;
-  own_val = R.own;
+  lives = R.lives;
+  own_val = R.own_val;
   exit = R.exit;
   coded = R.coded;
+  shr_at = R.shr_at;
   val = val;
 }
 
@@ -75,9 +79,11 @@ row X = record {
   mir = X.ty ∷ [];
   written = X.written;
   reaches = X.reaches;
-  own_val = X.own;
+  lives = X.lives;
+  own_val = X.own_val;
   exit = X.exit;
   coded = X.coded;
+  shr_at = X.shr_at;
 }
 
 -- of a parameter by value: at exit it is as it was passed
@@ -87,9 +93,11 @@ still X = record {
   mir = X.ty ∷ [];
   written = X.written;
   reaches = X.reaches;
-  own_val = X.own;
+  lives = X.lives;
+  own_val = X.own_val;
   exit = λ k. unchanged;
   coded = X.coded;
+  shr_at = X.shr_at;
 }
 
 pub record Known {M : Type 1} {𝓤 : Ura M} (𝓛 : Logic 𝓤) (X : Held) : Type 1 where
@@ -169,6 +177,8 @@ module _ (S P Q O : Held) (R : RattleType) (ν : Sym) (st : R.Denot → S.Denot)
   code callee = record {
     lifetimes = 1;
     outlives = [];
+    ty_params = [];
+    givens = 0;
     params = 3;
     locals =
         local O.ty value_local
@@ -256,7 +266,7 @@ module _ (S P Q O : Held) (R : RattleType) (ν : Sym) (st : R.Denot → S.Denot)
                 assigns ! (of_opd ! (load ! (from ! (hop ! (look ! 14 refl) (stop !))) (look_raw ! 0 refl))) (from ! (stop !)) (init ! 6 refl (Sk.fits h _ g)) $
                 nothing ! $ use1 𝓛 (raw (Callee.pre to-callee)) (goes-callee g) $
                 calls_at ! fm Callee known to-callee (and_then ! (load ! (from ! (stop !)) (look ! 7 refl)) (and_then ! (load ! (from ! (stop !)) (look ! 13 refl)) (and_then ! (load ! (from ! (stop !)) (look ! 11 refl)) (no_more !)))) (λ u.
-                use1 𝓛 (later (some (λ (r : R.Denot). (‵ ftrue ⊛ ‵ (R.own r (u ∷ []))) ⊛ raw (ensures h a1 a2 r)))) (id⊢ 𝓤 _) $ await ! tt $ pick ! (λ r.
+                use1 𝓛 (later (some (λ (r : R.Denot). (‵ ftrue ⊛ ‵ (R.own_val r (u ∷ []))) ⊛ raw (ensures h a1 a2 r)))) (id⊢ 𝓤 _) $ await ! tt $ pick ! (λ r.
                 split ! $ move ! (1 ∷ []) $ use1 𝓛 (raw (fact 𝓤 (r ≡ f h a1 a2))) (said h a1 a2 r) $ heard ! (r ≡ f h a1 a2) (λ e. split ! $ drop ! $
                 peeks ! R (Is R) (shows 𝓛 R) r (u ∷ []) (λ is.
                 land ! (from ! (stop !)) (init ! 9 refl (Rk.fits r u is)) $ drop ! $
