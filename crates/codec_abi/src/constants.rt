@@ -6,8 +6,7 @@ use codec::protocol::CommunicationType;
 use codec::registers::ParameterId;
 
 // The types of a frame.
-#[unsafe(no_mangle)]
-pub extern "C" fn codec_communication_types(out: &mut [u32; 14])
+pub fn codec_communication_types(out: &mut [u32; 14])
     ensures { out.new ≡ communication_types }
 {
     *out = [
@@ -29,8 +28,7 @@ pub extern "C" fn codec_communication_types(out: &mut [u32; 14])
 }
 
 // The ids that the Rust names.
-#[unsafe(no_mangle)]
-pub extern "C" fn codec_parameter_ids(out: &mut [u16; 31])
+pub fn codec_parameter_ids(out: &mut [u16; 31])
     ensures { out.new ≡ parameter_ids }
 {
     *out = [
@@ -69,8 +67,7 @@ pub extern "C" fn codec_parameter_ids(out: &mut [u16; 31])
 }
 
 // The protocols, the marker of a version request, and the signature of its reply.
-#[unsafe(no_mangle)]
-pub extern "C" fn codec_protocol_constants(out: &mut [u8; 7])
+pub fn codec_protocol_constants(out: &mut [u8; 7])
     ensures { out.new ≡ protocol_constants }
 {
     let signature = codec::replies::VERSION_REPLY_SIGNATURE;

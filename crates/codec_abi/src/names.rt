@@ -7,8 +7,7 @@ ghost use Rattle.codec_abi.specs.Packing.{first_half, second_half};
 use crate::packing::{first_half, second_half};
 
 // The name of a parameter, of no byte if it is unlisted.
-#[unsafe(no_mangle)]
-pub extern "C" fn codec_parameter_name(id: u16, first: &mut u64, second: &mut u64) -> usize
+pub fn codec_parameter_name(id: u16, first: &mut u64, second: &mut u64) -> usize
     ensures { (result ≡ (parameter_name id).length) × (first.new ≡ first_half (parameter_name id).bytes) × (second.new ≡ second_half (parameter_name id).bytes) }
 {
     let name = codec::parameter_names::parameter_name(id);
@@ -19,8 +18,7 @@ pub extern "C" fn codec_parameter_name(id: u16, first: &mut u64, second: &mut u6
 }
 
 // The name of a protocol command.
-#[unsafe(no_mangle)]
-pub extern "C" fn codec_protocol_name(cmd: u8, first: &mut u64, second: &mut u64) -> usize
+pub fn codec_protocol_name(cmd: u8, first: &mut u64, second: &mut u64) -> usize
     ensures { (result ≡ (protocol_name cmd).length) × (first.new ≡ first_half (protocol_name cmd).bytes) × (second.new ≡ second_half (protocol_name cmd).bytes) }
 {
     let name = codec::protocol::protocol_name(cmd);

@@ -26,8 +26,7 @@ fn kind_number(kind: ParameterDataType) -> u8
 }
 
 // The number of a parameter's kind, 0 if it is unlisted.
-#[unsafe(no_mangle)]
-pub extern "C" fn codec_parameter_info(id: u16) -> u8
+pub fn codec_parameter_info(id: u16) -> u8
     ensures { result ≡ info_number (parameter_info id) }
 {
     let ParameterInfo::Listed(kind) = codec::registers::parameter_info(id) else {
@@ -37,8 +36,7 @@ pub extern "C" fn codec_parameter_info(id: u16) -> u8
 }
 
 // The mode that a run_mode value names, as its own number, or 256 + the refusal's number.
-#[unsafe(no_mangle)]
-pub extern "C" fn codec_mode_from_raw(value: i8) -> u16
+pub fn codec_mode_from_raw(value: i8) -> u16
     ensures { result ≡ mode_answer (control_mode_from_raw value) }
 {
     match ControlMode::from_raw(value) {
@@ -48,16 +46,14 @@ pub extern "C" fn codec_mode_from_raw(value: i8) -> u16
 }
 
 // The refusal of a protocol command.
-#[unsafe(no_mangle)]
-pub extern "C" fn codec_validate_protocol_cmd(cmd: u8) -> u8
+pub fn codec_validate_protocol_cmd(cmd: u8) -> u8
     ensures { result ≡ refusal_in (validate_protocol_cmd cmd) }
 {
     refusal_in(codec::protocol::validate_protocol_cmd(cmd))
 }
 
 // The payload of a protocol command, and its refusal.
-#[unsafe(no_mangle)]
-pub extern "C" fn codec_encode_set_protocol(cmd: u8, payload: &mut u64) -> u8
+pub fn codec_encode_set_protocol(cmd: u8, payload: &mut u64) -> u8
     ensures { (result ≡ refusal_in (encode_set_protocol cmd).said) × (payload.new ≡ packed (encode_set_protocol cmd).payload) }
 {
     let answer = codec::protocol::encode_set_protocol(cmd);
@@ -68,16 +64,14 @@ pub extern "C" fn codec_encode_set_protocol(cmd: u8, payload: &mut u64) -> u8
 }
 
 // The payload that asks for a parameter.
-#[unsafe(no_mangle)]
-pub extern "C" fn codec_encode_parameter_read(id: u16) -> u64
+pub fn codec_encode_parameter_read(id: u16) -> u64
     ensures { result ≡ packed (encode_parameter_read id) }
 {
     packed(codec::protocol::encode_parameter_read(id))
 }
 
 // The payload that writes a parameter.
-#[unsafe(no_mangle)]
-pub extern "C" fn codec_encode_parameter_write(id: u16, raw: u32) -> u64
+pub fn codec_encode_parameter_write(id: u16, raw: u32) -> u64
     ensures { result ≡ packed (encode_parameter_write id raw) }
 {
     packed(codec::protocol::encode_parameter_write(id, raw))
@@ -104,8 +98,7 @@ fn typed_value(kind: u8, bits: u32) -> ParameterValue
 
 // The raw bytes of a value for a parameter, byte 0 lowest and 0 at a refusal, and the refusal. A
 // kind that is not 1 to 5 counts as 5.
-#[unsafe(no_mangle)]
-pub extern "C" fn codec_encode_parameter_value(id: u16, kind: u8, bits: u32, raw: &mut u32) -> u8
+pub fn codec_encode_parameter_value(id: u16, kind: u8, bits: u32, raw: &mut u32) -> u8
     ensures { (result ≡ encoded_refusal (encode_parameter_value id (typed_value kind bits))) × (raw.new ≡ encoded_raw (encode_parameter_value id (typed_value kind bits))) }
 {
     match codec::protocol::encode_parameter_value(id, typed_value(kind, bits)) {
@@ -147,8 +140,7 @@ fn raw_of(value: ParameterValue) -> u32
 }
 
 // The kind and the bits of the value that a read reply's payload carries for a parameter.
-#[unsafe(no_mangle)]
-pub extern "C" fn codec_decode_read_parameter_value(id: u16, payload: u64, bits: &mut u32) -> u8
+pub fn codec_decode_read_parameter_value(id: u16, payload: u64, bits: &mut u32) -> u8
     ensures { (result ≡ kind_number (kind_in (decode_read_parameter_value id (payload_of payload)))) × (bits.new ≡ raw_of (decode_read_parameter_value id (payload_of payload))) }
 {
     let value = codec::protocol::decode_read_parameter_value(id, payload_of(payload));

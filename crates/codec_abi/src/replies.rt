@@ -27,8 +27,7 @@ fn fault_bits(f: FaultFlags) -> u16
 
 // A fault report: fault word + warning word × 2^32. Its flags: those of the fault word, and bit 11
 // the overtemperature warning.
-#[unsafe(no_mangle)]
-pub extern "C" fn codec_decode_fault_report(payload: u64, flags: &mut u16) -> u64
+pub fn codec_decode_fault_report(payload: u64, flags: &mut u16) -> u64
     ensures { (result ≡ report_number (decode_fault_report (payload_of payload))) × (flags.new ≡ report_bits (decode_fault_report (payload_of payload))) }
 {
     let report = codec::faults::decode_fault_report(payload_of(payload));
@@ -39,8 +38,7 @@ pub extern "C" fn codec_decode_fault_report(payload: u64, flags: &mut u16) -> u6
 }
 
 // A ping reply: refusal × 2^16 + device × 2^8 + responder, and its payload.
-#[unsafe(no_mangle)]
-pub extern "C" fn codec_decode_ping_reply(id: u32, payload: u64, out: &mut u64) -> u32
+pub fn codec_decode_ping_reply(id: u32, payload: u64, out: &mut u64) -> u32
     ensures { (result ≡ ping_number (decode_ping_reply id (payload_of payload))) × (out.new ≡ packed (decode_ping_reply id (payload_of payload)).reply.payload) }
 {
     let answer = codec::replies::decode_ping_reply(id, payload_of(payload));
@@ -54,24 +52,21 @@ pub extern "C" fn codec_decode_ping_reply(id: u32, payload: u64, out: &mut u64) 
 }
 
 // The payload of a version request.
-#[unsafe(no_mangle)]
-pub extern "C" fn codec_encode_version_request() -> u64
+pub fn codec_encode_version_request() -> u64
     ensures { result ≡ packed encode_version_request }
 {
     packed(codec::replies::encode_version_request())
 }
 
 // Whether a frame is a version reply.
-#[unsafe(no_mangle)]
-pub extern "C" fn codec_is_version_reply(id: u32, payload: u64) -> bool
+pub fn codec_is_version_reply(id: u32, payload: u64) -> bool
     ensures { result ≡ is_version_reply id (payload_of payload) }
 {
     codec::replies::is_version_reply(id, payload_of(payload))
 }
 
 // A version reply: refusal × 2^16 + device, and the version, byte 0 lowest.
-#[unsafe(no_mangle)]
-pub extern "C" fn codec_decode_version_reply(id: u32, payload: u64, version: &mut u32) -> u32
+pub fn codec_decode_version_reply(id: u32, payload: u64, version: &mut u32) -> u32
     ensures { (result ≡ version_number (decode_version_reply id (payload_of payload))) × (version.new ≡ version_bytes (decode_version_reply id (payload_of payload))) }
 {
     let answer = codec::replies::decode_version_reply(id, payload_of(payload));

@@ -13,16 +13,14 @@ use codec::status::StatusFlags;
 use codec::word::Word;
 
 // The float that a word stands for.
-#[unsafe(no_mangle)]
-pub extern "C" fn codec_value(word: u32) -> f32
+pub fn codec_value(word: u32) -> f32
     ensures { result ≡ value_of (word_at word) }
 {
     codec::word::value(Word { bits: word })
 }
 
 // The word of a float; 7FC00000 for a NaN.
-#[unsafe(no_mangle)]
-pub extern "C" fn codec_word_of(x: f32) -> u32
+pub fn codec_word_of(x: f32) -> u32
     ensures { result ≡ (word_of x).bits }
 {
     let w = codec::word::word_of(x);
@@ -30,32 +28,28 @@ pub extern "C" fn codec_word_of(x: f32) -> u32
 }
 
 // The raw form of a position, a velocity or a torque v, of limit m.
-#[unsafe(no_mangle)]
-pub extern "C" fn codec_motion_raw(v: f32, m: f32) -> u16
+pub fn codec_motion_raw(v: f32, m: f32) -> u16
     ensures { result ≡ motion_raw v m }
 {
     codec::motion::motion_raw(v, m)
 }
 
 // The raw form of a gain v, of limit m.
-#[unsafe(no_mangle)]
-pub extern "C" fn codec_gain_raw(v: f32, m: f32) -> u16
+pub fn codec_gain_raw(v: f32, m: f32) -> u16
     ensures { result ≡ gain_raw v m }
 {
     codec::motion::gain_raw(v, m)
 }
 
 // The position, velocity or torque that a raw number stands for, of limit m.
-#[unsafe(no_mangle)]
-pub extern "C" fn codec_status_value(raw: u16, m: f32) -> f32
+pub fn codec_status_value(raw: u16, m: f32) -> f32
     ensures { result ≡ status_value raw m }
 {
     codec::status::status_value(raw, m)
 }
 
 // The temperature that a raw number stands for, in °C.
-#[unsafe(no_mangle)]
-pub extern "C" fn codec_temperature(raw: u16) -> f32
+pub fn codec_temperature(raw: u16) -> f32
     ensures { result ≡ temperature_of raw }
 {
     codec::status::temperature(raw)
@@ -63,8 +57,7 @@ pub extern "C" fn codec_temperature(raw: u16) -> f32
 
 // The limits of a model: position, velocity, torque, kp, kd. The refusal of an unknown name, for
 // which they are 0.
-#[unsafe(no_mangle)]
-pub extern "C" fn codec_model_limits(name: &[u8], out: &mut [f32; 5]) -> u8
+pub fn codec_model_limits(name: &[u8], out: &mut [f32; 5]) -> u8
     ensures { (result ≡ limits_refusal (model_limits name.now)) × (out.new ≡ limits_list (model_limits name.now)) }
 {
     match codec::model::model_limits(name) {
@@ -86,8 +79,7 @@ pub extern "C" fn codec_model_limits(name: &[u8], out: &mut [f32; 5]) -> u8
 }
 
 // A motion command: its extra field, and its payload.
-#[unsafe(no_mangle)]
-pub extern "C" fn codec_encode_mit_command(
+pub fn codec_encode_mit_command(
     position: f32,
     velocity: f32,
     kp: f32,
@@ -129,8 +121,7 @@ fn status_bits(f: StatusFlags) -> u16
 
 // A status frame: mode_state + device × 2^8 + flags × 2^16. Its values: position, velocity, torque
 // and temperature.
-#[unsafe(no_mangle)]
-pub extern "C" fn codec_decode_status_frame(
+pub fn codec_decode_status_frame(
     extra_data: u16,
     payload: u64,
     pmax: f32,

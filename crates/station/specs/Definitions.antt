@@ -5,7 +5,7 @@ use base.Logic.{ent, emp}
 use borrow.Fn.World.{World, Pr}
 use contract.Lifetimes.{Lfts}
 use contract.Monad.{fact}
-use Rattle.std.specs.Borrow.{Bor}
+use Rattle.std.specs.Borrow.{MutBor}
 use Rattle.std.specs.Int.{w8}
 use Rattle.std.proofs.Common.{of_z, to_z}
 use Rattle.codec.specs.declared.bus.CanFrame.{CanFrame}
@@ -25,7 +25,7 @@ use Rattle.codec.specs.Values.{encode_parameter_value, encode_parameter_read, en
 use Rattle.codec.specs.Words.{value_of, word_of}
 use Rattle.codec.proofs.error.number.Reads as number
 use Rattle.codec.proofs.faults.decode_fault_report.Reads as decode-fault-report
-use Rattle.codec.proofs.model.limits_of.Reads as Limits-of
+use Rattle.codec.proofs.model.limits_of.Reads as limits-of
 use Rattle.codec.proofs.model.model_limits.Reads as model-limits
 use Rattle.codec.proofs.model.model_named.Reads as model-named
 use Rattle.codec.proofs.motion.encode_mit_command.Reads as encode-mit-command
@@ -52,10 +52,10 @@ use Rattle.codec.proofs.replies.ping_reply.Reads as ping-reply
 use Rattle.codec.proofs.status.decode_status_frame.Reads as decode-status-frame
 use Rattle.codec.proofs.status.status_value.Reads as status-value
 use Rattle.codec.proofs.status.temperature.Reads as temperature
-use Rattle.codec.proofs.word.byte_of.Reads as byte_of
-use Rattle.codec.proofs.word.signed_of.Reads as Signed-of
+use Rattle.codec.proofs.word.byte_of.Reads as byte-of
+use Rattle.codec.proofs.word.signed_of.Reads as signed-of
 use Rattle.codec.proofs.word.value.Reads as value-reads
-use Rattle.codec.proofs.word.word_of.Reads as word_of
+use Rattle.codec.proofs.word.word_of.Reads as word-of
 use Rattle.motor.specs.engine.Hosts.{host_candidates}
 use Rattle.motor.specs.engine.Requests.{no_frame}
 use Rattle.motor.specs.engine.Run.{no_operation, begun_by, advanced, in_time}
@@ -81,7 +81,7 @@ use Rattle.motor.proofs.readings.drop_id.Reads as drop-id
 use Rattle.motor.proofs.readings.empty.Reads as empty-reads
 use Rattle.motor.proofs.readings.find.Reads as find-reads
 use Rattle.motor.proofs.readings.listed.Reads as listed-reads
-use Rattle.motor.proofs.readings.put.Reads as put_reads
+use Rattle.motor.proofs.readings.put.Reads as put-reads
 use Rattle.motor.proofs.edits.hear_read.Reads as hear-read
 use Rattle.motor.proofs.quiet.hear_state.Reads as hear-state
 use Rattle.motor.proofs.receive.accepts_frame.Reads as accepts-frame
@@ -142,19 +142,19 @@ pub record Parameters : Type 0 where
   pub decode-value : Gives decode-read-parameter-value.Post (of2 decode_read_parameter_value)
   pub mode-from : Gives from-raw.Post (of1 control_mode_from_raw)
   pub mode-to : Gives mode-number.Post (of1 control_mode_number)
-  pub byte : Gives byte_of.Post (of1 (λ v. of_z w8 v))
-  pub signed : Gives Signed-of.Post (of1 (λ b. to_z w8 b))
+  pub byte : Gives byte-of.Post (of1 (λ v. of_z w8 v))
+  pub signed : Gives signed-of.Post (of1 (λ b. to_z w8 b))
 
 -- a name is any bytes, lent; `now` is what they are
 pub record MotionValues : Type 0 where
   pub named : Gives model-named.Post (of1 (λ name. model_named name.now))
   pub limits-named : Gives model-limits.Post (of1 (λ name. model_limits name.now))
-  pub limits : Gives Limits-of.Post (of1 limits_of)
+  pub limits : Gives limits-of.Post (of1 limits_of)
   pub motion : Gives motion-raw.Post (of2 motion_raw)
   pub gain : Gives gain-raw.Post (of2 gain_raw)
   pub command : Gives encode-mit-command.Post (of6 encode_mit_command)
   pub float : Gives value-reads.Post (of1 value_of)
-  pub word : Gives word_of.Post (of1 word_of)
+  pub word : Gives word-of.Post (of1 word_of)
 
 pub record StatusValues : Type 0 where
   pub value : Gives status-value.Post (of2 status_value)
@@ -173,8 +173,8 @@ pub record ReadingRules : Type 0 where
   pub none-held : Means empty-reads.Post (of0 (λ r. Rep r at_first))
   pub find : Gives find-reads.Post (of2 find_of)
   pub find-held : Means find-reads.Post (of2 (λ rs id r. (l : List Entry) → Holds rs l → r ≡ lookup id l))
-  pub put : Gives put_reads.Post (of3 put_of)
-  pub put-held : Means put_reads.Post (of3 (λ rs id v r. (ls : Lists) → Rep rs ls → Puts rs ls id v r))
+  pub put : Gives put-reads.Post (of3 put_of)
+  pub put-held : Means put-reads.Post (of3 (λ rs id v r. (ls : Lists) → Rep rs ls → Puts rs ls id v r))
   pub drop : Gives drop-id.Post (of2 drop_id)
   pub drop-held : Means drop-id.Post (of2 (λ rs id r. (ls : Lists) → Rep rs ls → Rep r (drop_in id ls)))
   pub listed : Gives listed-reads.Post (of1 listed_of)
@@ -225,16 +225,16 @@ pub record CodecAsks : Type 2 where
   pub decode-value : AsksNothing decode-read-parameter-value.requires
   pub mode-from : AsksNothing from-raw.requires
   pub mode-to : AsksNothing mode-number.requires
-  pub byte : AsksNothing byte_of.requires
-  pub signed : AsksNothing Signed-of.requires
+  pub byte : AsksNothing byte-of.requires
+  pub signed : AsksNothing signed-of.requires
   pub named : AsksNothing model-named.requires
   pub limits-named : AsksNothing model-limits.requires
-  pub limits : AsksNothing Limits-of.requires
+  pub limits : AsksNothing limits-of.requires
   pub motion : AsksNothing motion-raw.requires
   pub gain : AsksNothing gain-raw.requires
   pub command : AsksNothing encode-mit-command.requires
   pub float : AsksNothing value-reads.requires
-  pub word : AsksNothing word_of.requires
+  pub word : AsksNothing word-of.requires
   pub value : AsksNothing status-value.requires
   pub degrees : AsksNothing temperature.requires
   pub status : AsksNothing decode-status-frame.requires
@@ -249,13 +249,13 @@ pub record CodecAsks : Type 2 where
   pub set-protocol : AsksNothing encode-set-protocol.requires
 
 -- the thin receive call has no `Reads`: its clauses themselves
-abbrev thin_asks : Lfts 1 → Bor Motor × (CanFrame × (ℕ × Unit {0})) → Unit {0} → (w : World) → Pr w
+abbrev thin_asks : Lfts 1 → MutBor Motor × (CanFrame × (ℕ × Unit {0})) → Unit {0} → (w : World) → Pr w
 thin_asks k x g w = (thin.clauses w.𝓛 w.𝓜.mem w.𝓡.run k x).requires g
 
 pub record MotorAsks : Type 2 where
   pub none : AsksNothing empty-reads.requires
   pub find : AsksNothing find-reads.requires
-  pub put : AsksNothing put_reads.requires
+  pub put : AsksNothing put-reads.requires
   pub drop : AsksNothing drop-id.requires
   pub listed : AsksNothing listed-reads.requires
   pub accepted : AsksNothing accepts-frame.requires
@@ -284,6 +284,6 @@ abbrev pub ThinHeard : Motor → CanFrame → ℕ → Checked → Motor → Type
 ThinHeard m f time r end = (r ≡ (process_feedback_frame m f time).said) × (end ≡ (process_feedback_frame m f time).motor)
 
 pub record ThinRules : Type 2 where
-  pub heard : (w : World) (k : Lfts 1) (m end : Bor Motor) (f : CanFrame) (time : ℕ) (r : Checked)
+  pub heard : (w : World) (k : Lfts 1) (m end : MutBor Motor) (f : CanFrame) (time : ℕ) (r : Checked)
       → (thin.clauses w.𝓛 w.𝓜.mem w.𝓡.run k (m, (f, (time, tt)))).ensures tt r (end, (f, (time, tt)))
       ≡ fact w.𝓤 (ThinHeard m.now f time r end.now)

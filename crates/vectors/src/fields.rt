@@ -87,6 +87,7 @@ fn put_number(n: u64, letter: u8, out: &mut [u8], at: usize) -> usize
 
 // The eight bytes of n in the other order: a payload is written byte 0 first, and counts byte 0
 // lowest.
+#[tactic(auto, unfolding(crate::specs::Numbers::swapped))]
 pub fn swapped(n: u64) -> u64
     ensures { result ≡ swapped n }
 {
@@ -94,6 +95,7 @@ pub fn swapped(n: u64) -> u64
 }
 
 // The four low bytes of n in the other order.
+#[tactic(auto, unfolding(crate::specs::Numbers::swapped4))]
 pub fn swapped4(n: u64) -> u64
     ensures { (result ≡ swapped4 n) × (result < 4294967296) }
 {

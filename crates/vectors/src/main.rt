@@ -8,8 +8,17 @@ mod motion;
 mod replies;
 mod requests;
 
-fn main() {
-    let mut inp = io::buffer();
-    let mut out = io::large_buffer();
-    lines::run(&mut inp, &mut out);
+use lines::Streams;
+use std::io;
+
+fn main(rt: HostRuntime) -> io::Result<()> {
+    let mut inp = [0u8; 4096];
+    let mut out = [0u8; 65536];
+    let mut streams = Streams {
+        stdin: rt.stdin(),
+        stdout: rt.stdout(),
+        said: Ok(()),
+    };
+    lines::run(&mut inp, &mut out, &mut streams);
+    streams.said
 }

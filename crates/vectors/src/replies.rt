@@ -21,6 +21,7 @@ pub fn reply(k: usize, v: [u64; 6], name: &[u8]) -> Reply
 }
 
 // Ids, parameters, modes and the protocol command.
+#[tactic(auto, unfolding(crate::specs::Replies::parameter_reply))]
 fn parameter_reply(k: usize, v: [u64; 6]) -> Reply
     ensures { result ≡ parameter_reply k v }
 {
@@ -39,6 +40,7 @@ fn parameter_reply(k: usize, v: [u64; 6]) -> Reply
 }
 
 // Fault reports, ping replies and version replies.
+#[tactic(auto, unfolding(crate::specs::Replies::frame_reply))]
 fn frame_reply(k: usize, v: [u64; 6]) -> Reply
     ensures { result ≡ frame_reply k v }
 {
@@ -52,6 +54,7 @@ fn frame_reply(k: usize, v: [u64; 6]) -> Reply
 }
 
 // Motion values and status values.
+#[tactic(auto, unfolding(crate::specs::Replies::value_reply))]
 fn value_reply(k: usize, v: [u64; 6], name: &[u8]) -> Reply
     ensures { result ≡ value_reply k v name.now }
 {
@@ -67,6 +70,7 @@ fn value_reply(k: usize, v: [u64; 6], name: &[u8]) -> Reply
 }
 
 // Names.
+#[tactic(auto, unfolding(crate::specs::Replies::name_reply))]
 fn name_reply(k: usize, v: [u64; 6]) -> Reply
     ensures { result ≡ name_reply k v }
 {

@@ -1,5 +1,8 @@
 -- A call on a lent station: where it goes and what it leaves there, put together, is the by-value call. Assumes nothing.
-use Prim.Native.Nat.{ℕ}
+use Prim.Native.Nat.{ℕ, ◌<◌}
+use Rattle.std.proofs.lemmas.List.{get_or_default}
+use Rattle.station.specs.declared.lent.visit.Visited.{Visited}
+use Rattle.station.specs.declared.lent.visit.Kept.{Kept}
 use native.Mathlib.Omega.{arith}
 use mathlib.Core.Path.{◌≡◌, refl, sym, ap, ◌∙◌}
 use mathlib.Core.Bool.{Bool, true, false, cond, not, true≢false}
@@ -40,7 +43,7 @@ use Rattle.station.specs.Station.{source_of}
 use Rattle.station.specs.Stations.{free_motor, place_of, taken_place, motor_at, with_motor, at_place, left, tell, moved_at, not_moved, looked_in, entered_in, admitted_in, register_by, register_in, start_in, step_in, frame_in, look_in, remove_in, call_by, call_in}
 use Rattle.station.specs.Stations as stations
 use Rattle.station.proofs.lent.IdIndex.{same_index, same_place}
-use Rattle.station.specs.lent.Lent.{removed_at, ids_of, place_in, taken_in, route_at, nowhere, route_to, route_free, route_new, route_frame, route_by, routed_of, visited_by, visited_at, kept_by, kept_at, edited_at, edited_motor}
+use Rattle.station.specs.lent.Lent.{station_of, removed_at, ids_of, place_in, taken_in, route_at, nowhere, route_to, route_free, route_new, route_frame, route_by, routed_of, visited_by, visited_at, kept_by, kept_at, edited_at, edited_motor}
 
 -- a station with a place left as it was is the same station
 same-station : (st : Station) (i : ℕ) → with_motor st i (motor_at st i) ≡ st
@@ -270,3 +273,40 @@ module _ (st : Station) (eight : length st.motors ≡ 8) (a : Asked) (r : Route)
       (record { motors = set st.motors r.«at» (edited_motor (get_or st.motors r.«at» free_motor) (edited_at (get_or st.motors r.«at» free_motor) a)) })
       (call_in st a).station)
   edit q = left_there _ _ (same-edited q)
+
+-- ---- the same where a place is read with any default: all eight are there
+
+abbrev pub ids_by : Motor → List Motor → List ℕ
+ids_by d ms =
+    (get_or ms 0 d).state.motor_id
+    ∷ (get_or ms 1 d).state.motor_id
+    ∷ (get_or ms 2 d).state.motor_id
+    ∷ (get_or ms 3 d).state.motor_id
+    ∷ (get_or ms 4 d).state.motor_id
+    ∷ (get_or ms 5 d).state.motor_id
+    ∷ (get_or ms 6 d).state.motor_id
+    ∷ (get_or ms 7 d).state.motor_id
+    ∷ []
+
+pub ids_by-default : (ms : List Motor) (d : Motor) → length ms ≡ 8 → ids_by d ms ≡ ids_of ms
+ids_by-default ms d eight =
+    let e : (i : ℕ) → i < 8 → get_or ms i d ≡ get_or ms i free_motor = λ i h. get_or_default ms i d free_motor (omega arith) in
+    rw (e 0 (omega arith), e 1 (omega arith), e 2 (omega arith), e 3 (omega arith), e 4 (omega arith), e 5 (omega arith), e 6 (omega arith), e 7 (omega arith))
+
+routed-there : (ms : List Motor) (d : Motor) (a : Asked) (r : Route) → length ms ≡ 8 → r ≡ routed_of (ids_by d ms) a → r ≡ routed_of (ids_of ms) a
+routed-there ms d a r eight e = e ∙ ap (λ (is : List ℕ). routed_of is a) (ids_by-default ms d eight)
+
+pub quiet-there : (ms : List Motor) (d : Motor) (a : Asked) (r : Route) (v : Kept) → length ms ≡ 8 → (r ≡ routed_of (ids_by d ms) a) × (r.«at» < 8) → r.quiet ≡ true
+    → v ≡ kept_at (get_or ms r.«at» d).state a r
+    → (v.replied ≡ (call_in (station_of ms) a).replied)
+    × (station_of (set ms r.«at» (record { state = v.state; readings = (get_or ms r.«at» d).readings })) ≡ (call_in (station_of ms) a).station)
+quiet-there ms d a r v eight e q k =
+    let g : get_or ms r.«at» d ≡ get_or ms r.«at» free_motor = get_or_default ms r.«at» d free_motor (omega arith) in
+    rw (k, g) (quiet (station_of ms) eight a r (routed-there ms d a r eight e.0) q)
+
+pub whole-there : (ms : List Motor) (d : Motor) (a : Asked) (r : Route) (v : Visited) → length ms ≡ 8 → (r ≡ routed_of (ids_by d ms) a) × (r.«at» < 8)
+    → v ≡ visited_at (get_or ms r.«at» d) a r
+    → (v.replied ≡ (call_in (station_of ms) a).replied) × (station_of (set ms r.«at» v.motor) ≡ (call_in (station_of ms) a).station)
+whole-there ms d a r v eight e k =
+    let g : get_or ms r.«at» d ≡ get_or ms r.«at» free_motor = get_or_default ms r.«at» d free_motor (omega arith) in
+    rw (k, g) (full (station_of ms) eight a r (routed-there ms d a r eight e.0))

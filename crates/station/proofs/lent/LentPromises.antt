@@ -8,7 +8,7 @@ use mathlib.Core.List.{List}
 use borrow.Fn.World.{World, Pr}
 use contract.Lifetimes.{Lfts}
 use contract.Monad.{fact}
-use denote.Ref.{Bor}
+use denote.MutBor.{MutBor}
 use Rattle.motor.specs.declared.motor.Motor.{Motor}
 use Rattle.station.specs.declared.call.Asked.{Asked}
 use Rattle.station.specs.declared.call.Replied.{Replied}
@@ -20,19 +20,19 @@ use Rattle.station.proofs.Promises.{New}
 use Rattle.station.specs.contracts.lent.call.call as lent-call
 use Rattle.station.specs.contracts.lent.look.look as lent-look
 
-abbrev call_asks : Lfts 1 → Bor (List Motor) × (Asked × Unit {0}) → Unit {0} → (w : World) → Pr w
+abbrev call_asks : Lfts 1 → MutBor (List Motor) × (Asked × Unit {0}) → Unit {0} → (w : World) → Pr w
 call_asks k x g w = (lent-call.clauses w.𝓛 w.𝓜.mem w.𝓡.run k x).requires g
 
-abbrev look_asks : Lfts 1 → Bor (List Motor) × (ℕ × Unit {0}) → Unit {0} → (w : World) → Pr w
+abbrev look_asks : Lfts 1 → MutBor (List Motor) × (ℕ × Unit {0}) → Unit {0} → (w : World) → Pr w
 look_asks k x g w = (lent-look.clauses w.𝓛 w.𝓜.mem w.𝓡.run k x).requires g
 
 pub record LentPromises : Type 2 where
   pub call-asks : AsksNothing call_asks
   pub look-asks : AsksNothing look_asks
-  pub called : (w : World) (k : Lfts 1) (m end : Bor (List Motor)) (a : Asked) (r : Replied)
+  pub called : (w : World) (k : Lfts 1) (m end : MutBor (List Motor)) (a : Asked) (r : Replied)
       → (lent-call.clauses w.𝓛 w.𝓜.mem w.𝓡.run k (m, (a, tt))).ensures tt r (end, (a, tt))
       ≡ fact w.𝓤 (Calls m.now a r end.now)
-  pub looked : (w : World) (k : Lfts 1) (m end : Bor (List Motor)) (id : ℕ) (r : Looked)
+  pub looked : (w : World) (k : Lfts 1) (m end : MutBor (List Motor)) (id : ℕ) (r : Looked)
       → (lent-look.clauses w.𝓛 w.𝓜.mem w.𝓡.run k (m, (id, tt))).ensures tt r (end, (id, tt))
       ≡ fact w.𝓤 (Looks m.now id r end.now)
   -- a look leaves the places as they were
