@@ -10,7 +10,7 @@ use Rattle.codec.specs.declared.bus.CanFrame.{CanFrame}
 use Rattle.motor.specs.declared.engine.command.Command.{Command}
 use Rattle.motor.specs.declared.engine.command.Said.{Said}
 use Rattle.motor.specs.declared.engine.command.Said.TheVariants as said
-use Rattle.motor.specs.Bounds.{LoneEvent, start as started, step as stepped, other as none-of-it, after_event as then, sends, is_due, once, count, most_frames_of, Given}
+use Rattle.motor.specs.Bounds.{LoneEvent, other as none-of-it, after_event as then, sends, is_due, once, count, most_frames_of, Given}
 use Rattle.motor.specs.Calls.{is_idle}
 use Rattle.motor.specs.Limits.{most_due_steps}
 use Rattle.motor.specs.Lone.{Lone, lone_start, lone_step}

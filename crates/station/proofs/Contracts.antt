@@ -2,7 +2,7 @@
 -- contract that is weakened or dropped breaks this file.
 -- Assumes nothing.
 use mathlib.Core.Path.{◌≡◌, refl, sym, ap, ◌∙◌, subst}
-use mathlib.Core.List.{List, [], ◌∷◌}
+use mathlib.Core.List.{List}
 use mathlib.Core.Option.{Option, none, some}
 use Prim.Native.Nat.{ℕ}
 use Rattle.codec.specs.declared.bus.CanFrame.{CanFrame}
@@ -15,9 +15,9 @@ use Rattle.station.specs.declared.call.Call.TheVariants as call
 use Rattle.station.specs.declared.station.After.{After}
 use Rattle.station.specs.declared.station.Looked.{Looked}
 use Rattle.station.specs.declared.station.Station.{Station}
-use Rattle.station.specs.Calls.{look, Reply, reply, gives, shows, refused, refuses}
+use Rattle.station.specs.Calls.{Reply, shows, refused, refuses}
 use Rattle.station.specs.Station.{Place, held, lone_by, route, station_by, station_call}
-use Rattle.station.specs.Stations.{register_in, start_in, step_in, frame_in, look_in, remove_in, reply_of, Shows, LeavesAs}
+use Rattle.station.specs.Stations.{register_in, reply_of, Shows, LeavesAs}
 use Rattle.station.specs.Code.{Out, after, looked, reply_in, next, given_by, given, Follows, seen, shown}
 use Rattle.station.proofs.Meanings.{register-means, start-means, step-means, frame-means, look-means, remove-means}
 use Rattle.station.proofs.Promises.{GivesBy, Gives}

@@ -1,7 +1,6 @@
 -- The functions' own contracts promise document 01's definitions: a contract that is weakened or dropped breaks this file. Assumes nothing.
 use mathlib.Core.Path.{refl}
 use base.Logic.{id⊢, emp}
-use borrow.Fn.World.{World}
 use Rattle.station.specs.Definitions.{Ids, Parameters, MotionValues, StatusValues, ReadingRules, ReceiveRules, Operations, CodecAsks, MotorAsks, ThinRules}
 
 pub ids : Ids

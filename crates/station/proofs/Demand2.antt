@@ -2,31 +2,25 @@
 -- the definitions, as the by-value and the lent ones do. Assumes nothing.
 use Prim.Native.Nat.{ℕ}
 use mathlib.Core.Path.{◌≡◌, refl, sym, ap, ◌∙◌, subst}
-use mathlib.Core.Bool.{true}
 use mathlib.Core.List.{List}
 use mathlib.Core.Option.{Option, none, some, none-ne-some, some-injective}
 use lib.ListN.{take}
 use lib.Seq.{take-append_seam}
-use Rattle.codec.specs.declared.bus.CanFrame.{CanFrame}
 use Rattle.codec.specs.declared.error.Checked.{Checked}
 use Rattle.codec.specs.declared.error.Checked.TheVariants as checked
 use Rattle.codec.specs.declared.error.Refusal.TheVariants as refusal
-use Rattle.codec.specs.declared.protocol.EncodedValue.TheVariants as encoded
-use Rattle.codec.specs.declared.protocol.ParameterValue.{ParameterValue}
-use Rattle.codec.specs.Values.{raw_of, encode_parameter_value, encode_parameter_write, InRange}
+use Rattle.codec.specs.Values.{raw_of}
 use Rattle.motor.specs.declared.engine.command.Command.TheVariants as command
-use Rattle.motor.specs.declared.engine.reading.Found.TheVariants as found
 use Rattle.motor.specs.declared.motor.Seen.{Seen}
 use Rattle.motor.specs.declared.readings.Entry.{Entry}
 use Rattle.motor.specs.Lone.{Lone, hears, lone_look}
 use Rattle.motor.specs.Readings.{lookup}
-use Rattle.motor.specs.Receive.{is_read}
 use Rattle.motor.specs.Echo.{Carries}
 use Rattle.station.specs.declared.call.Asked.{Asked}
 use Rattle.station.specs.declared.call.Call.TheVariants as call
 use Rattle.station.specs.declared.station.Looked.{Looked}
 use Rattle.station.specs.declared.station.Station.{Station}
-use Rattle.station.specs.Calls.{start, frame, look, Reply, ok, shows, refused, refuses}
+use Rattle.station.specs.Calls.{start, frame, look, Reply, shows, refuses}
 use Rattle.station.specs.Station.{Place, empty, held, lone_by, route, source_of, station_by, station_call}
 use Rattle.station.specs.Stations.{Shows, shown_by, reply_of}
 use Rattle.station.specs.History.{after}

@@ -1,6 +1,6 @@
 -- By the functions' first clauses a call leaves every other place the same value, on any station. Assumes nothing.
 use Prim.Native.Nat.{ℕ}
-use mathlib.Core.Path.{◌≡◌, refl, ◌∙◌, subst}
+use mathlib.Core.Path.{◌≡◌, refl, ◌∙◌}
 use mathlib.Core.Bool.{Bool, true, false, cond}
 use lib.Dec.{ltb}
 use lib.Seq.{get_or-set_other}
@@ -21,7 +21,7 @@ use Rattle.station.specs.declared.call.Call.{Call}
 use Rattle.station.specs.declared.call.Call.TheVariants as call
 use Rattle.station.specs.Station.{source_of}
 use Rattle.station.specs.Stations.{free_motor, place_of, taken_place, motor_at, with_motor, at_place, tell, moved_at, not_moved, heard_at, removed_at, entered_in, admitted_in, register_by, register_in, start_in, step_in, frame_in, remove_in}
-use Rattle.station.specs.Code.{Out, next, given_by, given, place_by, place_for}
+use Rattle.station.specs.Code.{next, given_by, given, place_by, place_for}
 
 -- ---- a choice, and what is done at the place of an id
 

@@ -10,7 +10,6 @@ use lib.ListN.{get_or, replicate}
 use Rattle.codec.specs.declared.bus.CanFrame.{CanFrame}
 use Rattle.codec.specs.declared.error.Checked.{Checked}
 use Rattle.codec.specs.declared.error.Checked.TheVariants as checked
-use Rattle.codec.specs.declared.error.Refusal.{Refusal}
 use Rattle.codec.specs.declared.error.Refusal.TheVariants as refusal
 use Rattle.codec.specs.declared.model.Model.TheVariants.{Rs00}
 use Rattle.codec.specs.declared.model.ModelNamed.{ModelNamed}
@@ -18,7 +17,7 @@ use Rattle.codec.specs.declared.model.ModelNamed.TheVariants as named
 use Rattle.codec.specs.declared.registers.ParameterDataType.{ParameterDataType}
 use Rattle.codec.specs.declared.registers.ParameterInfo.TheVariants as info
 use Rattle.codec.specs.Kinds.{parameter_info}
-use Rattle.codec.specs.Values.{kind_in, InRange}
+use Rattle.codec.specs.Values.{kind_in}
 use Rattle.motor.specs.declared.engine.command.Command.{Command}
 use Rattle.motor.specs.declared.engine.operation.Effect.{Effect}
 use Rattle.motor.specs.declared.engine.operation.Effect.TheVariants as effect

@@ -2,18 +2,15 @@
 use Prim.Native.Nat.{ℕ}
 use mathlib.Core.Path.{◌≡◌, sym, ap, ◌∙◌, subst}
 use mathlib.Core.Bool.{true, false}
-use mathlib.Core.List.{List, [], ◌∷◌}
+use mathlib.Core.List.{List, ◌∷◌}
 use mathlib.Core.Option.{Option, none, some}
-use Rattle.codec.specs.declared.bus.CanFrame.{CanFrame}
 use Rattle.codec.specs.Kinds.{among}
-use Rattle.motor.specs.declared.engine.command.Command.{Command}
-use Rattle.motor.specs.Lone.{Lone, lone_look}
+use Rattle.motor.specs.Lone.{Lone}
 use Rattle.station.specs.declared.call.Asked.{Asked}
 use Rattle.station.specs.declared.station.Station.{Station}
-use Rattle.station.specs.Calls.{start, step, frame, remove, Reply, ok, shows}
+use Rattle.station.specs.Calls.{start, step, frame, remove, Reply, ok}
 use Rattle.station.specs.Station.{Place, held, Distinct, source_of, station_call}
 use Rattle.station.specs.Stations.{free_motor, motor_at, with_motor, Shows}
-use Rattle.station.specs.History.{mine}
 use Rattle.station.specs.Demands.{inert, number, numbers_of, raised, failed, counting_numbers, ending_numbers, moving_numbers}
 use Rattle.station.specs.Code.{Out, reply_in, next, given, seen, shown, place_for, raised_at, failed_at}
 use Rattle.station.specs.CodeDemands.{CodeKept, CodeDemand1}

@@ -16,7 +16,7 @@ use Rattle.station.specs.declared.call.Asked.{Asked}
 use Rattle.station.specs.declared.call.Call.{Call}
 use Rattle.station.specs.declared.call.Call.TheVariants as call
 use Rattle.station.specs.Calls.{Reply}
-use Rattle.station.specs.Station.{Place, empty, held, full, Distinct, moves_to, hears_to, leaves, lone_by, lone, route, admission, enter, admit, source_of, station_by, station_call}
+use Rattle.station.specs.Station.{Place, empty, held, full, Distinct, moves_to, hears_to, leaves, lone_by, route, admission, enter, admit, source_of, station_by, station_call}
 use Rattle.station.specs.History.{mine_by, mine, after}
 use Rattle.station.proofs.Places.{same_id, held-add, distinct-free}
 use Rattle.station.proofs.Steps.{other, own-call, accepts-source, call-distinct, passes}

@@ -3,7 +3,6 @@
 use mathlib.Core.Path.{◌≡◌, refl, sym, ap, ◌∙◌, subst}
 use mathlib.Core.Bool.{cond}
 use mathlib.Core.List.{List, [], ◌∷◌}
-use mathlib.Core.Option.{some}
 use Prim.Native.Nat.{ℕ, zero, suc, ◌≤◌}
 use lib.ListN.{length, take}
 use Rattle.codec.specs.declared.error.Checked.TheVariants as checked
@@ -13,7 +12,7 @@ use Rattle.station.specs.declared.station.Station.{Station}
 use Rattle.station.specs.Calls.{Reply, ok}
 use Rattle.station.specs.Station.{Place, empty, held, Distinct, admission, station_call}
 use Rattle.station.specs.Stations.{Shows}
-use Rattle.station.specs.History.{Told, of_m, after, removes, story, own, history, alone, holds}
+use Rattle.station.specs.History.{Told, after, removes, story, own, history}
 use Rattle.station.specs.Demands.{Given, registers, Run, at, since}
 use Rattle.station.specs.Code.{Out, reply_in, next, given, Follows, seen, shown, reached, ending, answers_of}
 use Rattle.station.specs.CodeDemands.{Ran, CodeRun, code-since, code_at, CodeAsLone, CodeSame, CodeDemand3}

@@ -21,7 +21,6 @@ use Rattle.motor.specs.Lone.{Lone, LoneAnswered, LoneHeard, lone_start, lone_ste
 use Rattle.motor.specs.Receive.{accepts_frame}
 use Rattle.motor.proofs.Clock.{refused-nothing}
 use Rattle.motor.proofs.Stays.{moves_by, moves, heard_moves}
-use Rattle.station.specs.declared.call.Asked.{Asked}
 use Rattle.station.specs.declared.call.Call.{Call}
 use Rattle.station.specs.declared.call.Call.TheVariants as call
 use Rattle.station.specs.Calls.{remove, Reply, ok, no, says, answered, refused, refuses}

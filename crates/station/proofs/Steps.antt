@@ -18,7 +18,6 @@ use Rattle.motor.specs.Calls.{register_numbers}
 use Rattle.motor.specs.Lone.{Lone, lone_new, lone_again, lone_removal}
 use Rattle.motor.specs.Numbers.{first_of}
 use Rattle.motor.specs.Receive.{accepts_frame, frame_type, frame_extra}
-use Rattle.station.specs.declared.call.Answer.{Answer}
 use Rattle.station.specs.declared.call.Asked.{Asked}
 use Rattle.station.specs.declared.call.Call.{Call}
 use Rattle.station.specs.declared.call.Call.TheVariants as call

@@ -1,8 +1,16 @@
 -- A call on a lent station: where it goes and what it leaves there, put together, is the by-value call. Assumes nothing.
-use Prim.Native.Nat.{ℕ, ◌<◌}
-use Rattle.std.proofs.lemmas.List.{get_or_default}
+use Prim.Native.Nat.{ℕ, ◌<◌, ◌≤◌}
+use mathlib.Core.Logic.{◌⊎◌, inl, inr}
+use Rattle.std.proofs.lemmas.List.{get_or_default, get_or-set_same, set-set, set_past}
+use Rattle.std.proofs.lemmas.Bool.{cases_lt}
 use Rattle.station.specs.declared.lent.visit.Visited.{Visited}
 use Rattle.station.specs.declared.lent.visit.Kept.{Kept}
+use Rattle.station.specs.declared.lent.visit.Edited.{Edited}
+use Rattle.motor.specs.declared.motor.State.{State}
+use Rattle.motor.specs.declared.readings.Reading.{Reading}
+use Rattle.motor.specs.Edits.{edited_by}
+use Rattle.motor.specs.Limits.{most_records}
+use Rattle.motor.specs.Readings.{free_record, rec_at}
 use native.Mathlib.Omega.{arith}
 use mathlib.Core.Path.{◌≡◌, refl, sym, ap, ◌∙◌}
 use mathlib.Core.Bool.{Bool, true, false, cond, not, true≢false}
@@ -19,7 +27,6 @@ use Rattle.codec.specs.declared.error.Refusal.TheVariants as refusal
 use Rattle.codec.specs.declared.model.Model.{Model}
 use Rattle.codec.specs.declared.model.ModelNamed.{ModelNamed}
 use Rattle.codec.specs.declared.model.ModelNamed.TheVariants as named
-use Rattle.motor.specs.declared.engine.command.Command.{Command}
 use Rattle.motor.specs.declared.motor.Motor.{Motor}
 use Rattle.motor.specs.declared.registration.Admission.{Admission}
 use Rattle.motor.specs.declared.registration.Admission.TheVariants as admission
@@ -310,3 +317,69 @@ pub whole-there : (ms : List Motor) (d : Motor) (a : Asked) (r : Route) (v : Vis
 whole-there ms d a r v eight e k =
     let g : get_or ms r.«at» d ≡ get_or ms r.«at» free_motor = get_or_default ms r.«at» d free_motor (omega arith) in
     rw (k, g) (full (station_of ms) eight a r (routed-there ms d a r eight e.0))
+
+-- ---- an edit stored part by part
+
+-- a place changed twice is changed once by both
+changed-twice : (ms : List Motor) (i : ℕ) (d : Motor) (f g : Motor → Motor) → i < length ms
+    → set (set ms i (f (get_or ms i d))) i (g (get_or (set ms i (f (get_or ms i d))) i d)) ≡ set ms i (g (f (get_or ms i d)))
+changed-twice ms i d f g h = rw (get_or-set_same ms i (f (get_or ms i d)) d h) (set-set ms i (f (get_or ms i d)) (g (f (get_or ms i d))))
+
+abbrev with-state : State → Motor → Motor
+with-state s m = record { state = s; readings = m.readings }
+
+abbrev with-record : ℕ → Reading → Motor → Motor
+with-record k x m = record { state = m.state; readings = record { records = set m.readings.records k x; free = m.readings.free } }
+
+abbrev with-link : Reading → ℕ → ℕ → Motor → Motor
+with-link e k n m =
+    let r = get_or m.readings.records k e in
+    record { state = m.state; readings = record { records = set m.readings.records k (record { id = r.id; held = r.held; next = n }); free = m.readings.free } }
+
+abbrev with-free : ℕ → Motor → Motor
+with-free n m = record { state = m.state; readings = record { records = m.readings.records; free = n } }
+
+abbrev stored : List Motor → ℕ → Motor → (Motor → Motor) → List Motor
+stored ms i d f = set ms i (f (get_or ms i d))
+
+-- all four
+parts-stored : (ms : List Motor) (i : ℕ) (d : Motor) (f g h k : Motor → Motor) → i < length ms
+    → stored (stored (stored (stored ms i d f) i d g) i d h) i d k ≡ set ms i (k (h (g (f (get_or ms i d)))))
+parts-stored ms i d f g h k l =
+    ap (λ (s : List Motor). stored (stored s i d h) i d k) (changed-twice ms i d f g l)
+    ∙ ap (λ (s : List Motor). stored s i d k) (changed-twice ms i d (λ m. g (f m)) h l)
+    ∙ changed-twice ms i d (λ m. h (g (f m))) k l
+
+-- a record that isn't there is stored by neither
+linked-is : (l : List Reading) (e : Reading) (k n : ℕ)
+    → set l k (record { id = (get_or l k e).id; held = (get_or l k e).held; next = n }) ≡ set l k (record { id = (rec_at l k).id; held = (rec_at l k).held; next = n })
+linked-is l e k n = go (cases_lt k (length l))
+  where
+    go : (k < length l) ⊎ (length l ≤ k)
+        → set l k (record { id = (get_or l k e).id; held = (get_or l k e).held; next = n }) ≡ set l k (record { id = (rec_at l k).id; held = (rec_at l k).held; next = n })
+    go (inl h) = rw (get_or_default l k e (free_record 0) h)
+    go (inr h) = set_past l k _ h ∙ sym (set_past l k _ h)
+
+edit-is : (m : Motor) (e : Reading) (v : Edited)
+    → with-free v.edit.free (with-link e v.edit.second v.edit.link (with-record v.edit.first v.edit.one (with-state v.state m))) ≡ edited_motor m v
+unfolding edited_by
+edit-is m e v =
+    ap (λ (l : List Reading). record { state = v.state; readings = record { records = l; free = v.edit.free } })
+    (linked-is (set m.readings.records v.edit.first v.edit.one) e v.edit.second v.edit.link)
+
+pub edit-there : (ms : List Motor) (d : Motor) (e : Reading) (a : Asked) (r : Route) (v : Edited) → length ms ≡ 8
+    → (r ≡ routed_of (ids_by d ms) a) × (r.«at» < 8) → r.edits ≡ true
+    → (v ≡ edited_at (get_or ms r.«at» d) a) × (v.edit.first < most_records) × (v.edit.second < most_records)
+    → (v.replied ≡ (call_in (station_of ms) a).replied)
+    × (station_of (stored (stored (stored (stored ms r.«at» d (with-state v.state)) r.«at» d (with-record v.edit.first v.edit.one)) r.«at» d (with-link e v.edit.second v.edit.link)) r.«at» d (with-free v.edit.free))
+    ≡ (call_in (station_of ms) a).station)
+edit-there ms d e a r v eight q t k =
+    let l : r.«at» < length ms = omega arith in
+    let g : get_or ms r.«at» d ≡ get_or ms r.«at» free_motor = get_or_default ms r.«at» d free_motor l in
+    let w : v ≡ edited_at (get_or ms r.«at» free_motor) a = k.0 ∙ ap (λ (m : Motor). edited_at m a) g in
+    let p = edit (station_of ms) eight a r (routed-there ms d a r eight q.0) t in
+    let s = parts-stored ms r.«at» d (with-state v.state) (with-record v.edit.first v.edit.one) (with-link e v.edit.second v.edit.link) (with-free v.edit.free) l
+    ∙ ap (λ (m : Motor). set ms r.«at» m) (edit-is (get_or ms r.«at» d) e v ∙ ap (λ (m : Motor). edited_motor m v) g) in (
+      ap (λ (x : Edited). x.replied) w ∙ p.0,
+      ap station_of s ∙ ap (λ (x : Edited). station_of (set ms r.«at» (edited_motor (get_or ms r.«at» free_motor) x))) w ∙ p.1,
+    )
