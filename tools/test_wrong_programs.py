@@ -141,6 +141,8 @@ class OnAProver(unittest.TestCase):
 
 
 class OnTexts(unittest.TestCase):
+    maxDiff = None
+
     def test_edits_read_as_rt_reads_them(self) -> None:
         changes = changes_of("# why\nfile: src/a.rt\nold:   x = 1;\nnew:   x = 2;\nold: y\nnew:\nfile: specs/B.antt\nold: z\nnew: w")
         self.assertEqual([change.file for change in changes], ["src/a.rt", "src/a.rt", "specs/B.antt"])
