@@ -13,7 +13,6 @@ use Rattle.motor.specs.declared.engine.command.Command.TheVariants as command
 use Rattle.text.specs.Search.{index_of}
 use Rattle.text.specs.Words.{word_at}
 use Rattle.station.specs.declared.call.Call.TheVariants as call
-use Rattle.session.specs.declared.arguments.Args.{Args}
 use Rattle.session.specs.declared.arguments.Fitting.{Fitting}
 use Rattle.session.specs.declared.arguments.Fitting.TheVariants as fit
 use Rattle.session.specs.declared.event.Event.{Event}

@@ -1,5 +1,5 @@
 -- A frame heard: a line of a candump log. Definitions only.
-use Rattle.std.specs.Prelude.{ℕ, zero, suc, ◌+◌, ◌*◌, ◌-◌, ◌/◌, ◌%◌, ◌^◌, Bool, true, false, cond, List, [], ◌∷◌, eqb, ltb, leb, length, get_or, take, drop}
+use Rattle.std.specs.Prelude.{ℕ, zero, suc, ◌+◌, ◌*◌, ◌-◌, ◌/◌, ◌%◌, ◌^◌, Bool, true, false, cond, List, eqb, ltb, leb, length, get_or, take, drop}
 use Rattle.text.specs.Search.{index_of}
 use Rattle.text.specs.declared.numbers.Num.{Num}
 use Rattle.text.specs.declared.numbers.Num.TheVariants.{Value, Bad}
@@ -7,7 +7,6 @@ use Rattle.text.specs.Ascii.{ascii}
 use Rattle.text.specs.Numbers.{pick, digits_in}
 use Rattle.text.specs.Words.{word_count, word_at, which_of}
 use Rattle.session.specs.declared.event.Line.{Line}
-use Rattle.session.specs.declared.event.Reason.{Reason}
 use Rattle.session.specs.declared.event.Reason.TheVariants as reason
 use Rattle.session.specs.Events.{bad, can_frame, hands, or_line}
 

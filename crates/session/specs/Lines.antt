@@ -1,5 +1,5 @@
 -- What a line says. Definitions only.
-use Rattle.std.specs.Prelude.{ℕ, ◌-◌, ◌%◌, ◌^◌, Bool, cond, List, eqb, ltb, length, get_or}
+use Rattle.std.specs.Prelude.{ℕ, ◌-◌, ◌%◌, ◌^◌, cond, List, eqb, ltb, length, get_or}
 use Rattle.codec.specs.Models.{model_named}
 use Rattle.station.specs.declared.call.Call.TheVariants as call
 use Rattle.text.specs.Words.{word_at}

@@ -63,6 +63,7 @@ fn too_wide(shape: &[u8], v: [u64; 8]) -> usize
 }
 
 // The command of row k: ping has row 0.
+#[tactic(auto, unfolding(crate::specs::Commands::command_of))]
 fn command_of(k: usize, v: [u64; 8]) -> Command
     ensures { result ≡ spec.command_of k v }
 {
