@@ -2,9 +2,9 @@
 
     python3 tools/test_names.py
 
-A contract that says `result ≡ definition` of the function's own parameters names the definition by the function: `fn some_name`
-is `someName`; of a method the type comes first; a function that puts text, `put_thing`, puts `thingText`; one word may have a
-preposition or the type of the result after it (docs/ARCHITECTURE.md, 'Names').
+A contract that says `result ≡ definition` of the function's own parameters names the definition by the function: that of `fn
+some_name` is `some_name`; of a method the type comes first; a function that puts text, `put_thing`, puts `thing_text`; one word may
+have a preposition or the type of the result after it (docs/ARCHITECTURE.md, 'Names').
 """
 
 from __future__ import annotations
@@ -13,15 +13,17 @@ import re
 import shutil
 import tempfile
 import unittest
-from collections.abc import Iterator
+from collections.abc import Collection, Iterator
 from dataclasses import dataclass
 from pathlib import Path
 
 ROOT = Path(__file__).resolve().parents[1]
-PREPOSITIONS = ("Of", "In", "At", "By", "To")
-TESTS_ONLY = ("codec_abi", "station_abi", "vectors")
+PREPOSITIONS = ("of", "in", "at", "by", "to")
+TESTS_ONLY = ("codec_abi", "codec_abi_c", "station_abi", "vectors")
 # a function that promises another function's definition, and why
 PROMISED = {
+    "codec/src/replies.rt ping_reply": "ping_reply_of: `ping_reply` is a field of the motor's state, and a clause would read that",
+    "motor/src/engine/moves.rt count_by": "acknowledgement_count: `count_by` is a word of the library",
 }
 # a name that several types have, and why
 TYPES = {
@@ -56,33 +58,42 @@ def functions(crates: Path) -> Iterator[Function]:
                 type=owners[-1][0] if owners else "",
                 parameters=re.findall(r"\b(self|\w+(?=:))", signature[1]),
                 result=(signature[2] or "").strip(),
-                contracts=re.findall(r"ensures(?: \w+)? \{ λ r\. ⌜ (.*) ⌝ \}", whole),
+                contracts=list(ensured(whole)),
             )
 
 
-def camel(name: str) -> str:
-    first, *others = name.split("_")
-    return first + "".join(other[:1].upper() + other[1:] for other in others)
+def ensured(text: str) -> Iterator[str]:
+    """The clauses of a function that say what it ensures, each on one line."""
+    for head in re.finditer(r"^ *ensures(?: \w+)? \{", text, re.M):
+        depth, place = 1, head.end()
+        while depth:
+            depth += {"{": 1, "}": -1}.get(text[place], 0)
+            place += 1
+        yield " ".join(text[head.end() : place - 1].split())
+
+
+def snake(name: str) -> str:
+    return re.sub(r"(?<=[a-z0-9])[A-Z]", lambda capital: f"_{capital[0]}", name).lower()
 
 
 def names(function: Function, puts: bool) -> set[str]:
     """What a function's definition may be called."""
-    name = function.name.removeprefix("codec_") if function.place.startswith("codec_abi/") else function.name
+    name = function.name.removeprefix("codec_") if function.place.startswith("codec_abi") else function.name
     if function.type:
-        return {function.type[0].lower() + function.type[1:] + camel(f"_{name}")}
+        return {f"{snake(function.type)}_{name}"}
     if puts and name.startswith("put_"):
-        return {camel(name.removeprefix("put_")) + "Text"}
+        return {f"{name.removeprefix('put_')}_text"}
     if "_" in name:
-        return {camel(name)}
-    return {name, *(name + word for word in PREPOSITIONS), name + function.result}
+        return {name}
+    return {name, *(f"{name}_{word}" for word in PREPOSITIONS), f"{name}_{snake(function.result)}"}
 
 
 def promised(function: Function) -> Iterator[tuple[str, bool]]:
     """The definition that a contract says of the function's own parameters alone, and whether it is text that is put."""
     for contract in function.contracts:
-        text = re.sub(r"\(?now \((\w+) \.entry\)\)?", r"\1", contract).replace("«", "").replace("»", "")
-        said = re.match(r"\(?(?:now )?r ≡ ([a-z][\w.]*)((?: \w+)*)(?=\)? ×|$)", text)
-        put = re.match(r"Put out \w+ \(?([a-z][\w.]*)((?: \w+)*)\)? \(?now \(out \.exit\)\)? r$", text)
+        text = re.sub(r"\b(\w+)\.(?:old|now)\b", r"\1", contract).replace("«", "").replace("»", "")
+        said = re.match(r"\(?result ≡ ([a-z][\w.]*)((?: \w+)*)(?=\)? ×|$)", text)
+        put = re.match(r"Put out \w+ \(?([a-z][\w.]*)((?: \w+)*)\)? out\.new result$", text)
         found = said or put
         if not found:
             continue
@@ -96,18 +107,18 @@ def defined(crates: Path) -> set[str]:
     return {
         name
         for path in crates.glob("*/specs/**/*.antt")
-        for name in re.findall(r"^(?:abbrev|unfoldable) pub (\S+) :", path.read_text(), re.M)
+        for name in re.findall(r"^(?:\w+ )?pub (\S+) :", path.read_text(), re.M)
     }
 
 
-def misnamed(crates: Path) -> list[str]:
+def misnamed(crates: Path, exceptions: Collection[str] = PROMISED) -> list[str]:
     """The functions whose definition has another name."""
     known = defined(crates)
     return [
         f"{function.place}: {definition}, not {' or '.join(sorted(names(function, puts)))}"
         for function in functions(crates)
         for definition, puts in promised(function)
-        if definition in known and definition not in names(function, puts) and function.place not in PROMISED
+        if definition in known and definition not in names(function, puts) and function.place not in exceptions
     ]
 
 
@@ -132,8 +143,7 @@ class Names(unittest.TestCase):
         self.assertGreater(sum(1 for function in functions(ROOT / "crates") for _ in promised(function)), 200)
 
     def test_exceptions_are_needed(self) -> None:
-        places = {function.place for function in functions(ROOT / "crates")}
-        self.assertEqual(set(PROMISED) - places, set())
+        self.assertEqual({line.split(":")[0] for line in misnamed(ROOT / "crates", ())}, set(PROMISED))
 
     def test_a_broken_name_is_found(self) -> None:
         with tempfile.TemporaryDirectory() as scratch:
@@ -148,26 +158,31 @@ class Names(unittest.TestCase):
             self.assertEqual(types_twice(crates), ["CanFrame: codec/specs/Told.antt, codec/src/bus.rt"])
 
 
-# three broken names, and four right ones
+# three broken names, and five right ones
 TOLD = """
 fn hear_state(s: State, now: u64) -> State
-    ensures { λ r. ⌜ r ≡ stateHeard s now ⌝ }
+    ensures { result ≡ state_heard s now }
 fn put_ok(n: u64, out: &mut [u8], at: usize) -> usize
-    ensures { λ r. ⌜ Put (now (out .entry)) at (okOf n) (now (out .exit)) r ⌝ }
+    ensures { Put out.old at (ok_of n) out.new result }
 fn look(st: &[u8], id: u16) -> Looked
-    ensures is { λ r. ⌜ (r ≡ spec.shownIn (now (st .entry)) id) × (id ≤ 9) ⌝ }
+    ensures is {
+        (result ≡ spec.shown_in st.now id) × (id ≤ 9)
+    }
 fn told_by(s: State) -> State
-    ensures { λ r. ⌜ r ≡ toldBy s ⌝ }
+    ensures { result ≡ told_by s }
 fn put_no(n: u64, out: &mut [u8], at: usize) -> usize
-    ensures { λ r. ⌜ Put (now (out .entry)) at (noText n) (now (out .exit)) r ⌝ }
+    ensures { Put out.old at (spec.no_text n) out.new result }
 fn new(id: u16) -> Motor
-    ensures { λ r. ⌜ r ≡ newMotor id ⌝ }
+    ensures { result ≡ new_motor id }
 fn start(s: State) -> State
-    ensures { λ r. ⌜ r ≡ spec.startIn s ⌝ }
+    ensures { result ≡ spec.start_in s }
+fn stop(s: State) -> State
+    ensures kept { result ≡ s }
+    ensures { result ≡ spec.stop s }
 """
 DEFINITIONS = "pub record CanFrame : Type 0 where\n" + "".join(
     f"abbrev pub {name} : A\n"
-    for name in ("stateHeard", "okOf", "shownIn", "toldBy", "noText", "newMotor", "startIn")
+    for name in ("state_heard", "ok_of", "shown_in", "told_by", "no_text", "new_motor", "start_in", "stop")
 )
 
 

@@ -33,9 +33,9 @@ def named(crate: str, text: str) -> Iterator[str]:
     """The first name of each path into the crate: of code, of definitions, of proofs and of declared types."""
     own = re.escape(crate)
     for pattern in (
-        r"\bcrate::(\w+)",
-        rf"Rattle·{own}·specs\.specs\.(?:declared\.)?(\w+)",
-        rf"Rattle·{own}·proofs\.proofs\.(\w+)",
+        r"\bcrate::(?:(?:specs|proofs)::)?(?:(?:declared|contracts)::)?(\w+)",
+        rf"\bRattle\.{own}\.specs\.(?:(?:declared|contracts)\.)?(\w+)",
+        rf"\bRattle\.{own}\.proofs\.(\w+)",
         rf"\b{own}::(\w+)::",
     ):
         yield from re.findall(pattern, text)
@@ -89,17 +89,19 @@ class Rooms(unittest.TestCase):
                 shutil.copytree(ROOT / "crates" / crate, Path(scratch) / crate)
             motor, station = Path(scratch) / "motor", Path(scratch) / "station"
             append(motor / "src/engine/run.rt", "use crate::receive::is_late;\npub fn shown() {}\n")
-            append(motor / "specs/engine/Run.antt", "use Rattle·motor·specs.specs.Lone.{hears}\n")
-            append(motor / "proofs/engine/Choices.antt", "use Rattle·motor·proofs.proofs.Clock.{clock-of}\n")
+            append(motor / "src/engine/moves.rt", "#[tactic(auto, using(crate::proofs::Clock::clock_of))]\nfn hidden() {}\n")
+            append(motor / "specs/engine/Run.antt", "use Rattle.motor.specs.Lone.{hears}\nuse Rattle.motor.specs.declared.motor.State.{State}\n")
+            append(motor / "proofs/engine/Choices.antt", "use Rattle.motor.proofs.Clock.{clock_of}\n")
             append(station / "src/station.rt", "use crate::lent::call::call;\n")
-            append(station / "proofs/Contracts.antt", "use Rattle·station·proofs.proofs.lent.LentRuns.{runs}\n")
-            self.assertEqual(len(engine_sees(motor)), 3)
+            append(station / "proofs/Contracts.antt", "use Rattle.station.proofs.lent.LentRuns.{runs}\n")
+            self.assertEqual([line.split(": ")[1] for line in engine_sees(motor)], ["Clock", "receive", "Lone", "motor", "Clock"])
             self.assertEqual(engine_shows(motor) - ENGINE, {"shown"})
             self.assertEqual(len(lent_seen(station)), 2)
 
 
 def append(path: Path, text: str) -> None:
-    path.write_text(path.read_text() + text)
+    path.parent.mkdir(parents=True, exist_ok=True)
+    path.write_text((path.read_text() if path.is_file() else "") + text)
 
 
 if __name__ == "__main__":

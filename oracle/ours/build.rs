@@ -1,3 +1,3 @@
 fn main() {
-    locate::link_ours("codec_abi");
+    locate::link_ours("codec_abi_c");
 }

@@ -1,25 +1,20 @@
-"""Where a wrong program is tried: a scratch repository over a warm incremental folder.
+"""Where a wrong program is tried: scratch repositories with the crates' texts, and nothing of what was proved of them.
 
-The warm folder of a crate is the one that `rt dev` keeps, target/inc/CRATE. A cold one is filled from the crate's rlib, which
-holds each module as `rt check` checked it; a program has no rlib, and its first control checks it whole. A try gets the folder's
-files by hard links: the prover replaces a file and never writes into one, so no try sees another's results, and the control is
-run again at the end to show it.
+rt itself shares what checks kept among the copies of a repository on one machine (`rt check` and `rt must-fail` begin with it), so a
+scratch repository is as warm as the newest check of the same text anywhere, and from nothing where there was none.
 """
 
 from __future__ import annotations
 
 import os
-import re
 import shutil
 import subprocess
 import time
 from dataclasses import dataclass
 from pathlib import Path
 
-from .repository import PARTS, Edit, Repository
-from .verdict import Verdict, verdict_of
-
-COUNTS = re.compile(r"^crate \S+: modules loaded=(\d+) checked=(\d+)$", re.M)
+from .repository import PARTS, BadEdit, Edit, Repository
+from .verdict import UNCOMPILED, Verdict, verdict_of
 
 
 class Unready(Exception):
@@ -28,113 +23,77 @@ class Unready(Exception):
 
 @dataclass(frozen=True)
 class Control:
-    """The crate as it stands, over the warm folder."""
+    """The crate as it stands is proved."""
 
     seconds: float
-    loaded: int
-    checked: int
 
 
-def rt(folder: Path, *words: str) -> tuple[int, str]:
-    """Runs rt in a folder; what it prints is kept whole."""
-    done = subprocess.run(["rt", *words], cwd=folder, capture_output=True, env={**os.environ, "RT_CUT": "0"})
-    return done.returncode, (done.stdout + done.stderr).decode("utf-8", "replace")
+def rt(folder: Path, *words: str, jobs: int | None = None) -> tuple[int, str]:
+    """Runs rt in a folder, and gives all that it prints. With jobs it does so many things at a time."""
+    environment = {**os.environ, **({"RT_JOBS": str(jobs)} if jobs else {})}
+    done = subprocess.run(["rt", *words], cwd=folder, env=environment, stdout=subprocess.PIPE, stderr=subprocess.STDOUT)
+    return done.returncode, done.stdout.decode("utf-8", "replace")
 
 
-def linked(source: Path, target: Path) -> None:
-    """A copy of a folder by hard links, or by copies where there are none."""
-
-    def link(a: str, b: str) -> None:
-        try:
-            os.link(a, b)
-        except OSError:
-            shutil.copy2(a, b)
-
-    shutil.copytree(source, target, copy_function=link)
-
-
-class Warm:
-    """A crate's warm folder, and the scratch repositories over it."""
-
-    def __init__(self, repository: Repository, crate: str):
-        self.repository = repository
-        self.crate = crate
-        self.target = repository.root / "target"
-        self.folder = self.target / "inc" / crate
-        self.scratch = self.target / "wrong-programs"
-
-    def prepare(self) -> Control:
-        """Proves what the crate relies on, warms its folder and runs the control."""
-        needed = [*self.repository.below(self.crate)]
-        if not self.is_program():
-            needed.append(self.crate)
-        status, said = rt(self.repository.root, "check", *needed) if needed else (0, "")
-        if status != 0:
-            raise Unready(said)
-        if not self.folder.is_dir():
-            self.seed()
-        return self.control()
-
-    def is_program(self) -> bool:
-        return (self.repository.crate(self.crate) / "src" / "main.rt").is_file()
-
-    def seed(self) -> None:
-        """Fills a cold folder from the crate's rlib. The folder within it has the name of this build of the prover."""
-        checked = self.target / "rlib" / f"{self.crate}.rlib" / "toolchain" / "checked"
-        if not checked.is_dir():
-            return
-        empty = self.scratch / "empty"
-        shutil.rmtree(empty, ignore_errors=True)
-        (empty / "crates/empty/src").mkdir(parents=True)
-        (empty / "crates.txt").write_text("empty:\n")
-        (empty / "crates/empty/src/lib.rt").write_text("pub fn nothing() {}\n")
-        rt(empty, "dev", "empty")
-        for build in (empty / "target/inc/empty").glob("*/"):
-            linked(checked, self.folder / build.name)
-
-    def control(self) -> Control:
-        """The crate as it stands is proved over its folder."""
-        began = time.monotonic()
-        status, said = rt(self.repository.root, "dev", self.crate)
-        took = time.monotonic() - began
-        counts = COUNTS.search(said)
-        if status != 0 or "\nlogic=proved" not in said or counts is None:
-            raise Unready(said)
-        return Control(took, int(counts[1]), int(counts[2]))
-
-    def bench(self, place: int) -> Bench:
-        return Bench(self, self.scratch / f"{self.crate}-{place}")
+def lay(repository: Repository, root: Path, edits: list[Edit]) -> None:
+    """A scratch repository: the crates' texts, and of the edits, each in its crate's must-fail, these alone."""
+    # (it is the top of a repository)
+    (root / ".git").mkdir(parents=True)
+    for file in ("crates.txt", "HANDLES"):
+        if (repository.root / file).is_file():
+            shutil.copy(repository.root / file, root)
+    for crate in repository.needs:
+        for part in PARTS:
+            if (repository.crate(crate) / part).is_dir():
+                shutil.copytree(repository.crate(crate) / part, root / "crates" / crate / part)
+    for edit in edits:
+        assert edit.path is not None
+        folder = root / "crates" / edit.crate / "must-fail"
+        folder.mkdir(exist_ok=True)
+        shutil.copy(edit.path, folder)
 
 
 class Bench:
-    """A scratch repository: the crate copied for each try, what it relies on where it stands."""
+    """A scratch repository in which one edit after the other is put into its crate, checked, and taken out again."""
 
-    def __init__(self, warm: Warm, root: Path):
-        self.warm = warm
+    def __init__(self, repository: Repository, root: Path):
+        self.repository = repository
         self.root = root
-        self.crate = root / "crates" / warm.crate
-        self.folder = root / "target" / "inc" / warm.crate
 
-    def lay(self) -> None:
-        """The crate as it stands, over its own copy of the warm folder."""
-        shutil.rmtree(self.root, ignore_errors=True)
-        (self.root / "crates").mkdir(parents=True)
-        (self.root / "target" / "stamp").mkdir(parents=True)
-        repository = self.warm.repository
-        shutil.copy(repository.root / "crates.txt", self.root)
-        (self.root / "target" / "rlib").symlink_to(self.warm.target / "rlib")
-        for need in repository.below(self.warm.crate):
-            (self.root / "crates" / need).symlink_to(repository.crate(need))
-            shutil.copy(self.warm.target / "stamp" / need, self.root / "target" / "stamp")
-        for part in PARTS:
-            if (repository.crate(self.warm.crate) / part).is_dir():
-                shutil.copytree(repository.crate(self.warm.crate) / part, self.crate / part)
-        linked(self.warm.folder, self.folder)
+    def control(self, crate: str) -> Control:
+        """The crate as it stands is proved."""
+        self.laid()
+        began = time.monotonic()
+        status, said = rt(self.root / "crates" / crate, "check")
+        if status != 0 or "\nlogic=proved" not in said:
+            raise Unready(said)
+        return Control(time.monotonic() - began)
 
     def attempt(self, edit: Edit) -> Verdict:
-        """Applies an edit to a fresh copy and asks the prover."""
-        self.lay()
-        edit.apply(self.crate)
-        began = time.monotonic()
-        status, said = rt(self.root, "dev", self.warm.crate)
-        return verdict_of(status, said, time.monotonic() - began, self.crate, edit.refused_at)
+        """Checks the crate with the edit: the function that must refuse it, or else all of the crate."""
+        self.laid()
+        own = self.repository.crate(edit.crate)
+        try:
+            texts = edit.texts(own)
+        except BadEdit as wrong:
+            return unapplied(wrong)
+        folder = self.root / "crates" / edit.crate
+        only = ["--only", edit.aim.function] if edit.aim and edit.aim.function else []
+        try:
+            for file, text in texts.items():
+                (folder / file).write_text(text, encoding="utf-8")
+            began = time.monotonic()
+            status, said = rt(folder, "check", *only)
+            return verdict_of(status, said, time.monotonic() - began, edit.crate, edit.aim, folder, texts)
+        finally:
+            for file in texts:
+                shutil.copy(own / file, folder / file)
+
+    def laid(self) -> None:
+        if not self.root.is_dir():
+            lay(self.repository, self.root, [])
+
+
+def unapplied(wrong: BadEdit) -> Verdict:
+    """Of an edit that can't be applied."""
+    return Verdict(UNCOMPILED, 0.0, "", f"it doesn't apply: {wrong}", "", "")

@@ -6,11 +6,14 @@ import re
 from dataclasses import dataclass
 from pathlib import Path
 
+from .source import functions_in
+
 PARTS = ("src", "specs", "proofs")
 # where edits stand: those that rt ci tries, and those that only this tool does
 FOLDERS = ("must-fail", "wrong-programs")
-# the comment line that names the proof that refuses the edit: its file, or the function, where this has no proof file of its own
+# the comment line that names what refuses the edit: a function, by a proof file of it or by its source, or a file of lemmas
 REFUSED_AT = re.compile(r"^# refused at: (\S+(?: fn \w+)?)$", re.M)
+PROOF = re.compile(r"proofs/(.+)/(?:Proof|Answers|Invariants)\.antt")
 
 
 class BadEdit(Exception):
@@ -27,31 +30,47 @@ class Change:
 
 
 @dataclass(frozen=True)
+class Aim:
+    """What must refuse an edit: a function, by its path in the crate, or any line of a file."""
+
+    function: str = ""
+    file: str = ""
+
+    def __str__(self) -> str:
+        return f"fn {self.function}" if self.function else self.file
+
+
+@dataclass(frozen=True)
 class Edit:
-    """A wrong program: changes of one crate, in rt's format, and the proof that must refuse it, which a mutant doesn't know."""
+    """A wrong program: changes of one crate, in rt's format, and what must refuse it, which a mutant doesn't know."""
 
     crate: str
     name: str
     changes: tuple[Change, ...]
-    refused_at: str | None = None
+    aim: Aim | None = None
+    path: Path | None = None
 
     @property
     def label(self) -> str:
         return f"{self.crate}/{self.name}"
 
-    def apply(self, folder: Path) -> None:
-        """Changes a copy of the crate. A text that isn't there, or stands there twice, is refused, as rt refuses it."""
+    def texts(self, folder: Path) -> dict[str, str]:
+        """The files of the crate as the edit leaves them. An old text that isn't there, or stands there twice, is refused, as rt refuses it."""
         if not self.changes:
             raise BadEdit("it has no 'old:' and 'new:' pair")
+        texts: dict[str, str] = {}
         for change in self.changes:
             path = folder / change.file
             inside = change.file.split("/")[0] in PARTS and ".." not in change.file.split("/")
             if not inside or not path.is_file():
                 raise BadEdit(f"{change.file} is no file of the crate")
-            text = path.read_text(encoding="utf-8")
+            text = texts.get(change.file) or path.read_text(encoding="utf-8")
             if not change.old or text.count(change.old) != 1:
                 raise BadEdit(f"an 'old:' text is in {change.file} {text.count(change.old) if change.old else 'no'} times")
-            path.write_text(text.replace(change.old, change.new), encoding="utf-8")
+            texts[change.file] = text.replace(change.old, change.new)
+        if all(text == (folder / file).read_text(encoding="utf-8") for file, text in texts.items()):
+            raise BadEdit("it changes nothing")
+        return texts
 
 
 def changes_of(text: str) -> tuple[Change, ...]:
@@ -69,6 +88,28 @@ def changes_of(text: str) -> tuple[Change, ...]:
     return tuple(found)
 
 
+def aim_of(folder: Path, said: str) -> Aim | None:
+    """What a line 'refused at' names, if the crate has it: `proofs/word/value/Answers.antt`, whether or not the function has such a file,
+    `src/word.rt fn value`, `proofs/Masks.antt` or `src/main.rt`."""
+    proof = PROOF.fullmatch(said)
+    file, _, name = said.partition(" fn ")
+    if proof:
+        path = "::".join(part.removeprefix("+") for part in proof[1].split("/"))
+        known = [function.path for source in sources(folder) for function in functions_in(folder, source)]
+        return Aim(function=path) if known.count(path) == 1 else None
+    if file.split("/")[0] not in PARTS or not (folder / file).is_file():
+        return None
+    if not name:
+        return Aim(file=file)
+    found = [function.path for function in functions_in(folder, file) if function.name == name] if file.startswith("src/") else []
+    return Aim(function=found[0]) if len(found) == 1 else None
+
+
+def sources(folder: Path) -> list[str]:
+    """The crate's source files."""
+    return sorted(str(path.relative_to(folder)) for path in (folder / "src").rglob("*.rt"))
+
+
 class Repository:
     """A folder with crates.txt."""
 
@@ -76,20 +117,12 @@ class Repository:
         self.root = root
         self.needs: dict[str, list[str]] = {}
         for line in (root / "crates.txt").read_text(encoding="utf-8").splitlines():
-            name, colon, needs = line.partition("#")[0].partition(":")
+            words, colon, needs = line.partition("#")[0].partition(":")
             if colon:
-                self.needs[name.strip()] = needs.split()
+                self.needs[words.split()[0]] = needs.split()
 
     def crate(self, name: str) -> Path:
         return self.root / "crates" / name
-
-    def below(self, name: str) -> list[str]:
-        """The crates of the repository that this one relies on."""
-        found: list[str] = []
-        for need in self.needs[name]:
-            if need in self.needs:
-                found += [n for n in [*self.below(need), need] if n not in found]
-        return found
 
     def edits(self, name: str) -> list[Edit]:
         """The edits of a crate, by name."""
@@ -104,6 +137,7 @@ class Repository:
         """An edit of a crate, as its file has it."""
         text = file.read_text(encoding="utf-8")
         said = REFUSED_AT.findall(text)
-        if len(said) != 1 or said[0].split("/")[0] not in PARTS or not (self.crate(name) / said[0].split()[0]).is_file():
-            raise BadEdit(f"{name}/{file.stem} doesn't name the one proof that must refuse it, as in '# refused at: FILE'")
-        return Edit(name, file.stem, changes_of(text), said[0])
+        aim = aim_of(self.crate(name), said[0]) if len(said) == 1 else None
+        if aim is None:
+            raise BadEdit(f"{name}/{file.stem} doesn't name the one proof that must refuse it, as in '# refused at: src/word.rt fn value'")
+        return Edit(name, file.stem, changes_of(text), aim, file)

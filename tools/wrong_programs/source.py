@@ -1,14 +1,58 @@
-"""What of a Rattle file a mutant may change: the bodies of functions, and the values of constants."""
+"""What a Rattle file has: its functions by their paths, and what of it a mutant may change, bodies and the values of constants."""
 
 from __future__ import annotations
 
 import re
+from dataclasses import dataclass
+from pathlib import Path
 
 HIDDEN = re.compile(r"//[^\n]*|b\"(?:\\.|[^\"\\])*\"|b'(?:\\.[^']*|[^'\\])'")
 FUNCTION = re.compile(r"\bfn\s+\w+")
 CONSTANT = re.compile(r"\bconst\s+\w+\s*:[^=]+=([^;]*);")
 AHEAD = re.compile(r"\b(?:requires|ensures|ghost)\b|[{;]")
 CLOSING = {"(": ")", "{": "}", "[": "]"}
+HEAD = re.compile(r"^ *(?:pub(?:\(\w+\))? )?(?:const )?(?:extern \"C\" )?fn (\w+)", re.M)
+OWNER = re.compile(r"^(?:impl(?:<[^>]*>)? ([^{]+?) *\{|(\}))", re.M)
+
+
+@dataclass(frozen=True)
+class Function:
+    """A function of a crate: its path, as rt says it, and the lines from its attributes on."""
+
+    path: str
+    first: int
+    last: int
+
+    @property
+    def name(self) -> str:
+        return self.path.split("::")[-1]
+
+
+def module_of(file: str) -> list[str]:
+    """The path of a source file's module."""
+    parts = file.removeprefix("src/").removesuffix(".rt").split("/")
+    return [] if parts in (["lib"], ["main"]) else parts
+
+
+def owner_of(head: str) -> str:
+    """The name that rt gives an impl: `ControlMode`, and `KindDisplay` for `fmt::Display for Kind`."""
+    words = [re.sub(r"<.*", "", word).split("::")[-1] for word in re.split(r"\bfor\b", head)]
+    return "".join(word.strip() for word in reversed(words))
+
+
+def functions_in(folder: Path, file: str, text: str | None = None) -> list[Function]:
+    """The functions of a source file."""
+    whole = (folder / file).read_text(encoding="utf-8") if text is None else text
+    lines, found = whole.split("\n"), []
+    for head in HEAD.finditer(whole):
+        first = whole.count("\n", 0, head.start()) + 1
+        while first > 1 and re.match(r" *(?:#\[|//)", lines[first - 2]):
+            first -= 1
+        owners = [owner_of(owner[1]) if owner[1] else "" for owner in OWNER.finditer(whole[: head.start()])]
+        owner = [owners[-1]] if owners and owners[-1] else []
+        found.append((first, "::".join([*module_of(file), *owner, head[1]])))
+    ends = [first - 1 for first, _ in found[1:]] + [len(lines)]
+    return [Function(path, first, last) for (first, path), last in zip(found, ends)]
 
 
 def blank(text: str) -> str:

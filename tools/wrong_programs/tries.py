@@ -1,4 +1,4 @@
-"""Tries wrong programs on the prover, some at a time, and says how each ended."""
+"""Tries wrong programs on benches, some at a time, and says how each ended."""
 
 from __future__ import annotations
 
@@ -6,21 +6,14 @@ import queue
 import threading
 from collections.abc import Iterable, Iterator
 
-from .bench import Bench, Warm
-from .repository import BadEdit, Edit
+from .bench import Bench
+from .repository import Edit
 from .verdict import FACT, PROVED, REFUSED, UNCOMPILED, UNTOLD, Verdict
 
 WIDTH = 160
 
 
-def attempted(bench: Bench, edit: Edit) -> Verdict:
-    try:
-        return bench.attempt(edit)
-    except BadEdit as wrong:
-        return Verdict(UNCOMPILED, 0.0, "", f"it doesn't apply: {wrong}", "", "", str(wrong))
-
-
-def tried(warm: Warm, edits: Iterable[Edit], jobs: int) -> Iterator[tuple[Edit, Verdict]]:
+def tried(benches: list[Bench], edits: Iterable[Edit]) -> Iterator[tuple[Edit, Verdict]]:
     """Each edit with its verdict, as they end; an edit is taken only when a bench is free for it."""
     source, lock = iter(edits), threading.Lock()
     ended: queue.Queue[tuple[Edit, Verdict] | Exception | None] = queue.Queue()
@@ -32,14 +25,14 @@ def tried(warm: Warm, edits: Iterable[Edit], jobs: int) -> Iterator[tuple[Edit, 
                     edit = next(source, None)
                 if edit is None:
                     break
-                ended.put((edit, attempted(bench, edit)))
+                ended.put((edit, bench.attempt(edit)))
         except Exception as wrong:
             ended.put(wrong)
         ended.put(None)
 
-    for place in range(jobs):
-        threading.Thread(target=work, args=(warm.bench(place),), daemon=True).start()
-    working = jobs
+    for bench in benches:
+        threading.Thread(target=work, args=(bench,), daemon=True).start()
+    working = len(benches)
     while working:
         result = ended.get()
         if isinstance(result, Exception):
@@ -51,12 +44,13 @@ def tried(warm: Warm, edits: Iterable[Edit], jobs: int) -> Iterator[tuple[Edit, 
 
 
 def line_of(edit: Edit, verdict: Verdict) -> str:
-    """One line: how it ended, seconds, what the first error shows, where it stands, and how it begins."""
+    """One line: how it ended, seconds where it was looked at by itself, what the error shows, where it stands, and how it begins."""
     words = " ".join(verdict.message.split())
     begins = words if len(words) <= WIDTH else words[: WIDTH - 3] + "..."
+    took = f" ({verdict.seconds:.1f} s)" if verdict.seconds else ""
     shown = f"{verdict.shows}: {verdict.reason}; " if verdict.ending == REFUSED else ""
     error = f"{shown}{verdict.place} {begins}" if verdict.ending != PROVED else ""
-    return f"{edit.label}: {verdict.ending} ({verdict.seconds:.1f} s) {error}".rstrip()
+    return f"{edit.label}: {verdict.ending}{took} {error}".rstrip()
 
 
 class Tally:
@@ -89,6 +83,7 @@ class MutantTally:
         self.crate = crate
         self.wanted_count = count
         self.endings = dict.fromkeys((REFUSED, PROVED, UNTOLD, UNCOMPILED), 0)
+        self.facts = 0
         self.survivors: list[str] = []
 
     def reached(self) -> int:
@@ -103,6 +98,7 @@ class MutantTally:
 
     def count(self, edit: Edit, verdict: Verdict) -> None:
         self.endings[verdict.ending] += 1
+        self.facts += verdict.ending == REFUSED and verdict.shows == FACT
         if verdict.ending in (PROVED, UNTOLD):
             self.survivors.append(f"{edit.label}: {verdict.ending}")
 
@@ -110,6 +106,6 @@ class MutantTally:
         survivors = "".join(f"survivor: {line}\n" for line in self.survivors)
         return (
             f"{survivors}wrong-programs: {self.crate}: {self.reached()} mutants reached the prover, "
-            f"{self.endings[REFUSED]} refused, {self.endings[PROVED]} proved, {self.endings[UNTOLD]} without a verdict; "
+            f"{self.endings[REFUSED]} refused, {self.facts} of them by a fact, {self.endings[PROVED]} proved, {self.endings[UNTOLD]} without a verdict; "
             f"{self.endings[UNCOMPILED]} didn't compile"
         )

@@ -2,7 +2,7 @@
 
     from combradish import Command, Frame, Station
 
-    with Station("target/bin/replay", recording="today.session", answers="today.answers") as station:
+    with Station("crates/replay/out/replay", recording="today.session", answers="today.answers") as station:
         station.register(2, 0xFD, "rs-00", 0, 1000)
         answer = station.start(2, 1100, Command.controlled_stop(200))
 """

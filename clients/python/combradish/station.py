@@ -256,4 +256,4 @@ class Station:
 
 def program_of(repository: Path) -> str:
     """The replay program: what COMBRADISH_REPLAY names, else the repository's own build."""
-    return os.environ.get("COMBRADISH_REPLAY") or str(repository / "target" / "bin" / "replay")
+    return os.environ.get("COMBRADISH_REPLAY") or str(repository / "crates" / "replay" / "out" / "replay")

@@ -9,7 +9,7 @@
 //!
 //! # fn main() -> Result<(), Box<dyn std::error::Error>> {
 //! let recording = Recording::none().session(File::create("bus.session")?);
-//! let mut station = Station::open(Path::new("target/bin/replay"), recording)?;
+//! let mut station = Station::open(Path::new("crates/replay/out/replay"), recording)?;
 //! station.register(1, 0xFD, Model::new("rs-00")?, 0, 100)?.result()?;
 //! let reply = station.start(1, 100, Command::Enable)?;
 //! if let Some(frame) = reply.frame {

@@ -50,7 +50,7 @@ use Rattle.session.specs.Table.{commands, modes}
 use Rattle.text.specs.Ascii.{ascii}
 use Rattle.text.specs.Words.{word_at}
 use Rattle.text.proofs.TextLengths.{Short, words, none, wider, ◌&◌, either, digits-short, decimal-short, widths_of, fields-short, word-short, words_upto, words-few}
-use Rattle.answers.specs.Values.{named_text, line_text, end_of_line, space, value_text, signed_text, payload_number}
+use Rattle.answers.specs.Values.{named_text, line_text, end_of_line, space, value_text, signed_text}
 use Rattle.answers.specs.Names.{mode_place, command_place}
 use Rattle.answers.specs.Said.{ok_text, last_text, values_text, refused_text, told_text, stamp_text, frame_text, ping_text, version_text, outcome_text, finished_text, sent_text, last_line, said_text}
 use Rattle.answers.specs.Looks.{motor_text, told_state_text, feedback_text, report_text, fault_text, held_ping_text, held_version_text, gains_text, running_text, state_text, reading_text, readings_upto, readings_text, seen_text, looked_by, looked_text, least}

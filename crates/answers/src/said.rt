@@ -37,6 +37,7 @@ pub fn put_refused(refusal: Refusal, out: &mut [u8], at: usize) -> usize
     text::put_byte(out, q, b'\n')
 }
 
+#[tactic(auto, unfolding(crate::specs::Said::values_text))]
 fn put_carried(refusal: Refusal, out: &mut [u8], at: usize) -> usize
     ensures { Put out.old at (spec.carried_text refusal) out.new result }
 {

@@ -1,6 +1,6 @@
 -- One frame more: what a loop has counted, and what is left to count, stay the same together. Assumes nothing.
 use Prim.Native.Nat.{ℕ, zero, suc, ◌+◌, ◌-◌, ◌^◌, ◌≤◌, ◌<◌}
-use mathlib.Core.Path.{◌≡◌, refl, sym, ap, ◌∙◌}
+use mathlib.Core.Path.{◌≡◌, refl, ap}
 use native.Mathlib.Omega.{arith}
 use Rattle.codec.specs.declared.bus.CanFrame.{CanFrame}
 use Rattle.codec.specs.declared.error.Checked.{Checked}
@@ -46,11 +46,6 @@ module _ (motors kind parameter : ℕ) (st : Station) (id : ℕ) where
       let s : times - count ≡ suc (times - (count + 1)) = omega arith in
       let k = next-taken (times - (count + 1)) in
       rw (p, q, g, e) (omega (arith, rw (s, k) at h))
-
-  pub begins : (times : ℕ) → 0 + taken_from motors kind parameter st id (times - 0) ≡ taken_from motors kind parameter st id times
-  begins times =
-      let e : times - 0 ≡ times = omega arith in
-      rw e (omega arith)
 
   pub ends : (taken left total : ℕ) → left ≡ 0 → taken + taken_from motors kind parameter st id left ≡ total → taken ≡ total
   unfolding taken_from

@@ -50,16 +50,16 @@ pub fn announce() {
     }
 }
 
-/// Links the static library of one of our crates. Without it nothing can be compared, and that is a
-/// failure.
+/// Links the static library of one of our crates, where `rt lib` leaves it. Without it nothing can be
+/// compared, and that is a failure.
 pub fn link_ours(name: &str) {
     println!("cargo::rerun-if-changed=build.rs");
-    let folder = folder("COMBRADISH_STATICLIB", "../target/staticlib");
+    let folder = folder("COMBRADISH_STATICLIB", &format!("../crates/{name}/out"));
     let library = folder.join(format!("lib{name}.a"));
     println!("cargo::rerun-if-changed={}", library.display());
     if !library.is_file() {
         println!(
-            "cargo::error=no lib{name}.a in {}: make it by `rt staticlib {name}`, or name its folder in COMBRADISH_STATICLIB",
+            "cargo::error=no lib{name}.a in {}: make it by `rt lib` in crates/{name}, or name its folder in COMBRADISH_STATICLIB",
             folder.display()
         );
     }

@@ -1,4 +1,4 @@
-//! The C interface of crate codec_abi. A function that takes no bare pointer can be given anything and
+//! The C interface of crate codec_abi_c. A function that takes no bare pointer can be given anything and
 //! is safe to call.
 
 unsafe extern "C" {

@@ -1,4 +1,4 @@
-//! Our codec, from the static library libcodec_abi.a, each function in the shape of the Rust's answer.
+//! Our codec, from the static library libcodec_abi_c.a, each function in the shape of the Rust's answer.
 //! A payload crosses the C interface as a number, byte 0 lowest.
 use common::answers::{
     Encoded, Faults, IdParts, Limits, Motion, Name, Ping, SetProtocol, Status, Value, Version,

@@ -13,13 +13,13 @@ pub type Replay<'a> = &'a (dyn Fn(&str) -> Vec<u8> + Sync);
 /// How long one input may take.
 const PATIENCE: Duration = Duration::from_secs(120);
 
-/// Where the program is: the file that COMBRADISH_REPLAY names, else target/bin/replay of the
+/// Where the program is: the file that COMBRADISH_REPLAY names, else crates/replay/out/replay of the
 /// repository. A path that isn't absolute starts at the folder oracle.
 pub fn program() -> Result<PathBuf, String> {
     let oracle = Path::new(env!("CARGO_MANIFEST_DIR")).join("..");
     let path = match std::env::var("COMBRADISH_REPLAY") {
         Ok(named) if !named.is_empty() => oracle.join(named),
-        _ => oracle.join("../target/bin/replay"),
+        _ => oracle.join("../crates/replay/out/replay"),
     };
     if path.is_file() {
         return Ok(path);

@@ -4,13 +4,13 @@ use std::path::{Path, PathBuf};
 use std::process::{Child, Command, Stdio};
 use std::thread;
 
-/// The file that COMBRADISH_REPLAY names, else target/bin/replay of the repository. A path that isn't
-/// absolute starts at the folder oracle.
+/// The file that COMBRADISH_REPLAY names, else crates/replay/out/replay of the repository. A path that
+/// isn't absolute starts at the folder oracle.
 fn path() -> PathBuf {
     let oracle = Path::new(env!("CARGO_MANIFEST_DIR")).join("..");
     match std::env::var("COMBRADISH_REPLAY") {
         Ok(named) if !named.is_empty() => oracle.join(named),
-        _ => oracle.join("../target/bin/replay"),
+        _ => oracle.join("../crates/replay/out/replay"),
     }
 }
 

@@ -4,11 +4,11 @@ use std::path::{Path, PathBuf};
 pub mod replay;
 pub mod sources;
 
-/// The file that COMBRADISH_REPLAY names, else target/bin/replay of the repository.
+/// The file that COMBRADISH_REPLAY names, else crates/replay/out/replay of the repository.
 pub fn program() -> PathBuf {
     match std::env::var_os("COMBRADISH_REPLAY") {
         Some(named) if !named.is_empty() => PathBuf::from(named),
-        _ => repository().join("target/bin/replay"),
+        _ => repository().join("crates/replay/out/replay"),
     }
 }
 

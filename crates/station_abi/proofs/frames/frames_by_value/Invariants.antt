@@ -1,0 +1,12 @@
+-- Right because what is counted, and what is left to count, stay the same together; and at most one more is counted in each turn.
+use Prim.Native.Nat.{◌+◌, ◌-◌, ◌≤◌}
+use mathlib.Core.Path.{◌≡◌}
+use Rattle.station_abi.specs.Frames.{taken_from}
+use Rattle.station_abi.proofs.frames.frames_by_value.Given as goal
+
+abbrev pub invariant-loop-count : goal.invariant-loop-count
+invariant-loop-count l =
+    (l.count ≤ l.times) × (l.taken ≤ l.count) × (l.taken + taken_from l.motors l.kind l.parameter l.st l.id (l.times - l.count) ≡ taken_from l.motors l.kind l.parameter l.initial.st 1 l.times)
+
+abbrev pub decreases-loop-count : goal.decreases-loop-count
+decreases-loop-count l = l.times - l.count
