@@ -1,5 +1,5 @@
 -- The texts of errors stand in tables: what is at a place there is the definition's text. Assumes nothing.
-use Rattle.std.proofs.Common.{◌≡◌, ℕ, zero, suc, ◌+◌, Bool, true, false, cond, eqb, List, [], ◌∷◌, sym, refl, ◌∙◌}
+use Rattle.std.proofs.Common.{◌≡◌, ℕ, zero, suc, ◌+◌, Bool, true, false, cond, eqb, List, sym, refl, ◌∙◌}
 use lib.Dec.{eqb-zero-suc, eqb-suc-zero, eqb-suc-suc}
 use Rattle.text.specs.Search.{index_of, index_after, slice}
 use Rattle.text.specs.Ascii.{ascii}
