@@ -3,3 +3,4 @@ pub mod Lending
 pub mod Looking
 pub mod LentPromises
 pub mod LentRuns
+pub mod MotorParts
