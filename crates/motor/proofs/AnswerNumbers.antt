@@ -2,9 +2,11 @@
 use Rattle.std.proofs.Common.{◌≡◌, ℕ, zero, suc, List, ℤ, refl, ap, ◌∙◌}
 use Rattle.codec.specs.declared.error.Checked.{Checked}
 use Rattle.codec.specs.declared.error.Checked.TheVariants as checked
+use Rattle.codec.specs.declared.error.LastMode.{LastMode}
+use Rattle.codec.specs.declared.error.LastMode.TheVariants as last
 use Rattle.codec.specs.declared.error.Refusal.{Refusal}
-use Rattle.codec.specs.Refusals.{number_of, values_of}
-use Rattle.codec.specs.Numbers.{answer_of, checked_of}
+use Rattle.codec.specs.Refusals.{number_of, values_of, listed, last_read}
+use Rattle.codec.specs.Numbers.{answer_of, checked_of, last_of}
 use Rattle.codec.proofs.RefusalNumbers.{checked-back}
 use Rattle.motor.specs.declared.engine.command.Said.{Said}
 use Rattle.motor.specs.declared.engine.command.Said.TheVariants as said
@@ -43,3 +45,8 @@ admission-back (admission.Refused r) = back _ admission.Refused r
 pub put_back : (a : PutAnswer) → put_answer_of (put_row a) ≡ a
 put_back put.Kept = refl
 put_back put.Full = refl
+
+-- the mode that 18 carries
+pub last-back : (m : LastMode) → last_of (listed (last_read m)) ≡ m
+last-back last.Unread = refl
+last-back (last.Read value) = refl

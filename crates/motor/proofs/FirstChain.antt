@@ -11,16 +11,16 @@ use Rattle.motor.proofs.Chains.{entry_in, set_same, set_other}
 
 -- ---- the records, one by one
 
-get_d-run : (n s k : ℕ) → k < n → rec_at (map first_record (run n s)) k ≡ first_record (s + k)
+rec_at-run : (n s k : ℕ) → k < n → rec_at (map first_record (run n s)) k ≡ first_record (s + k)
 unfolding run
-get_d-run zero s k h = absurd (omega arith)
-get_d-run (suc n) s zero h = let e : s ≡ s + 0 = omega arith in ap first_record e
-get_d-run (suc n) s (suc k) h =
+rec_at-run zero s k h = absurd (omega arith)
+rec_at-run (suc n) s zero h = let e : s ≡ s + 0 = omega arith in ap first_record e
+rec_at-run (suc n) s (suc k) h =
     let e : suc s + k ≡ s + suc k = omega arith in
-    get_d-run n (suc s) k (omega arith) ∙ ap first_record e
+    rec_at-run n (suc s) k (omega arith) ∙ ap first_record e
 
 first-at : (k : ℕ) → k < most_records → rec_at empty_readings.records k ≡ first_record k
-first-at k h = let e : 0 + k ≡ k = omega arith in get_d-run most_records 0 k h ∙ ap first_record e
+first-at k h = let e : 0 + k ≡ k = omega arith in rec_at-run most_records 0 k h ∙ ap first_record e
 
 first-size : length empty_readings.records ≡ most_records
 first-size = length-map (run most_records 0) first_record ∙ length_run most_records 0

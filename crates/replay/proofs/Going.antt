@@ -8,7 +8,7 @@ use Rattle.text.specs.Put.{Put}
 use Rattle.text.proofs.Putting.{put-text}
 use Rattle.replay.specs.declared.cursor.Cursor.{Cursor}
 use Rattle.replay.specs.Events.{station_after_line, text_after_line, line_says}
-use Rattle.replay.specs.Limits.{buffer_size, output_room, longest_answer}
+use Rattle.replay.specs.Limits.{buffer_size, output_room}
 use Rattle.replay.specs.Program.{heard, hear_all}
 use Rattle.replay.specs.Turns.{line_at, line_end, cursor_from, first_line, cursor_after, LinesTaken}
 use Rattle.replay.proofs.Fits.{fits}

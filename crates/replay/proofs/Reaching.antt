@@ -6,7 +6,7 @@ use Rattle.station.specs.Stations.{new_station}
 use Rattle.replay.specs.declared.cursor.Cursor.{Cursor}
 use Rattle.replay.specs.Events.{station_after_line, text_after_line}
 use Rattle.replay.specs.Limits.{buffer_size, kept_bytes}
-use Rattle.replay.specs.Program.{HeardSoFar, heard, hear, hear_all, Plain, torn_text, answered, program, kept_of, kept_as, hear_piece, hear_pieces, joined, program_of, Reached, Due, Reads, Follows, AllAnswered}
+use Rattle.replay.specs.Program.{HeardSoFar, heard, hear, hear_all, Plain, torn_text, answered, program, kept_of, kept_as, hear_piece, hear_pieces, joined, Reached, Due, Follows, AllAnswered}
 use Rattle.replay.specs.Turns.{LinesTaken}
 use Rattle.replay.proofs.Cutting.{cut-anywhere}
 use Rattle.replay.proofs.Hearing.{hear-plain, cut}
@@ -159,10 +159,10 @@ reached-first = record { reads = []; told = []; got-is = refl; sent_is = refl; h
 
 -- what is left there is what was kept
 pub left_over : (rest pending : List ℕ) (got got' : ℕ) (full : Bool) → (full ≡ false → Plain rest) → Follows full rest got pending got' false → Plain pending × (length pending < buffer_size)
-left_over rest pending got got' true p f = absurd (true≢false (sym f.2))
-left_over rest pending got got' false p f =
-    let e : kept_of rest ≡ pending = sym (append-nil (kept_of rest)) ∙ ap (λ (l : List ℕ). kept_of rest ++ l) (sym (f.ends refl)) ∙ sym f.pending-is in
-    (subst Plain e (plain-kept rest (p refl)), subst (λ (l : List ℕ). length l < buffer_size) e (kept-short rest))
+left_over before pending got got' true p f = absurd (true≢false (sym f.2))
+left_over before pending got got' false p f =
+    let e : kept_of before ≡ pending = sym (append-nil (kept_of before)) ∙ ap (λ (l : List ℕ). kept_of before ++ l) (sym (f.ends refl)) ∙ sym f.pending-is in
+    (subst Plain e (plain-kept before (p refl)), subst (λ (l : List ℕ). length l < buffer_size) e (kept-short before))
 
 module _ (st : Station) (pending : List ℕ) (got sent left : ℕ) (r : Reached st pending got sent left) (plain : Plain pending) (short : length pending < buffer_size) where
   abbrev torn : List ℕ

@@ -1,36 +1,30 @@
 -- The texts of errors stand in tables: what is at a place there is the definition's text. Assumes nothing.
-use Rattle.std.proofs.Common.{◌≡◌, ℕ, zero, suc, ◌+◌, Bool, true, false, cond, eqb, List, [], ◌∷◌, sym, refl, ◌∙◌}
+use Rattle.std.proofs.Common.{◌≡◌, ℕ, zero, suc, ◌+◌, Bool, true, false, cond, eqb, List, sym, refl, ◌∙◌}
 use lib.Dec.{eqb-zero-suc, eqb-suc-zero, eqb-suc-suc}
-use types.Run.{OneOf, miss}
-use denote.Enum.Declared.{tag_of}
 use Rattle.text.specs.Search.{index_of, index_after, slice}
 use Rattle.text.specs.Ascii.{ascii}
 use Rattle.text.specs.Words.{part_at}
 use Rattle.session.specs.declared.event.Reason.{Reason}
 use Rattle.session.specs.declared.event.Reason.TheVariants as reason
-use Rattle.session.specs.contracts.event.Reason.{the_type}
 use Rattle.replay.specs.Reasons.{wanted_text, reason_place, plain_text, reason_text}
 
--- the variants that carry nothing, by their numbers
-abbrev bare : List ℕ
-bare = 0 ∷ 1 ∷ 2 ∷ 5 ∷ 6 ∷ 7 ∷ 8 ∷ 9 ∷ 10 ∷ 11 ∷ 12 ∷ 13 ∷ []
-
-pub plain : (r : Reason) → OneOf bare (tag_of the_type r) → plain_text r ≡ reason_text r
+-- a reason that carries nothing
+pub plain : (r : Reason) → ((n : ℕ) → r ≡ reason.WordCount n → ⊥) → ((n letter : ℕ) → r ≡ reason.BadWord n letter → ⊥) → plain_text r ≡ reason_text r
 unfolding reason_place reason_text part_at index_of index_after
-plain reason.LineTooLong h = refl
-plain reason.NoSuchEvent h = refl
-plain reason.NoSuchCommand h = refl
-plain (reason.WordCount n) h = absurd (miss bare 3 tt h)
-plain (reason.BadWord n letter) h = absurd (miss bare 4 tt h)
-plain reason.LogWords h = refl
-plain reason.Stamp h = refl
-plain reason.Direction h = refl
-plain reason.FrameId h = refl
-plain reason.FrameData h = refl
-plain reason.RemoteFrame h = refl
-plain reason.FdFrame h = refl
-plain reason.ErrorFrame h = refl
-plain reason.TornLine h = refl
+plain reason.LineTooLong h k = refl
+plain reason.NoSuchEvent h k = refl
+plain reason.NoSuchCommand h k = refl
+plain (reason.WordCount n) h k = absurd (h n refl)
+plain (reason.BadWord n letter) h k = absurd (k n letter refl)
+plain reason.LogWords h k = refl
+plain reason.Stamp h k = refl
+plain reason.Direction h k = refl
+plain reason.FrameId h k = refl
+plain reason.FrameData h k = refl
+plain reason.RemoteFrame h k = refl
+plain reason.FdFrame h k = refl
+plain reason.ErrorFrame h k = refl
+plain reason.TornLine h k = refl
 
 swap : (m n : ℕ) → eqb m n ≡ eqb n m
 swap zero zero = refl

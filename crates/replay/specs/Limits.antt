@@ -1,7 +1,7 @@
 -- What the buffers hold; the code's are src/limits.rt. Definitions only.
 use Rattle.std.specs.Prelude.{ℕ}
 
--- a buffer's bytes, which are io's
+-- a buffer's bytes, which are main's
 abbrev pub buffer_size : ℕ
 buffer_size = 65536
 

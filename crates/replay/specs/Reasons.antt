@@ -1,5 +1,5 @@
 -- Why a line isn't an event, as text. Definitions only.
-use Rattle.std.specs.Prelude.{ℕ, cond, List, [], ◌∷◌, ◌++◌, ◌==◌}
+use Rattle.std.specs.Prelude.{ℕ, cond, List, ◌++◌, ◌==◌}
 use Rattle.session.specs.declared.event.Reason.{Reason}
 use Rattle.session.specs.declared.event.Reason.TheVariants as reason
 use Rattle.text.specs.Ascii.{ascii}

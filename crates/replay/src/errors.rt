@@ -38,6 +38,7 @@ fn put_plain(reason: Reason, out: &mut [u8], at: usize) -> usize
     put_bytes(out, at, text)
 }
 
+#[tactic(auto, unfolding(crate::specs::Reasons::reason_place))]
 fn reason_place(reason: Reason) -> usize
     ensures { result ≡ spec.reason_place reason }
 {

@@ -1,4 +1,4 @@
-// What the buffers hold; a buffer is io::large_buffer's, of 65,536 bytes. proofs/LimitsTied ties them.
+// What the buffers hold; a buffer is main's, of 65,536 bytes. proofs/LimitsTied ties them.
 
 // Up to here an answer is put behind the others; past it they are written first.
 pub const ROOM: usize = 57344;

@@ -9,6 +9,15 @@ use crate::limits::KEPT;
 use crate::turns::take_lines;
 use session::event::Reason;
 use station::station::new;
+use std::io::{Print, Read, Stderr, Stdin, Stdout};
+
+// Standard input, output and error.
+#[derive(Clone, Copy)]
+pub struct Streams {
+    pub stdin: Stdin,
+    pub stdout: Stdout,
+    pub stderr: Stderr,
+}
 
 // The bytes to be answered, from a place of the buffer up to n. got counts, round 2^64, all that were read. more is whether the
 // input goes on, good whether the read went well.
@@ -40,7 +49,7 @@ pub struct Ran {
 
 // Answers the lines of the input until it ends, or a read or a write fails. Nothing says that an input ends, so the turns are
 // counted down from a number that no run uses up.
-pub(crate) fn run(inp: &mut [u8], out: &mut [u8]) -> Ran
+pub(crate) fn run(inp: &mut [u8], out: &mut [u8], streams: Streams) -> Ran
     requires { (length inp.old ≡ buffer_size) × (length out.old ≡ buffer_size) }
     ensures { (result.good ≡ true → spec.AllAnswered result.got result.sent) × (result.good ≡ false → result.failed ≡ false → spec.OutOfTurns result.got result.sent) }
 {
@@ -58,7 +67,7 @@ pub(crate) fn run(inp: &mut [u8], out: &mut [u8]) -> Ran
         motors = after;
         let c = taken.cursor;
         let at = c.at;
-        let told = written(&out[..at], sent);
+        let told = written(&out[..at], sent, streams);
         if !told.good {
             return Ran {
                 got,
@@ -68,9 +77,9 @@ pub(crate) fn run(inp: &mut [u8], out: &mut [u8]) -> Ran
             };
         }
         sent = told.total;
-        let next = more_bytes(inp, from + c.from, n, c.full, got);
+        let next = more_bytes(inp, from + c.from, n, c.full, got, streams);
         if !next.more {
-            return finish(next, out, sent);
+            return finish(next, out, sent, streams);
         }
         from = next.from;
         n = next.n;
@@ -85,26 +94,33 @@ pub(crate) fn run(inp: &mut [u8], out: &mut [u8]) -> Ran
 }
 
 // Says on standard error what failed.
-fn complain(what: &[u8]) {
-    io::write_all(2, what);
+fn complain(what: &[u8], streams: Streams) {
+    let _ = streams.stderr.write_all(what);
 }
 
 // Writes the bytes that are due, and says so where that fails.
-fn written(bytes: &[u8], sent: usize) -> Wrote
+fn written(bytes: &[u8], sent: usize, streams: Streams) -> Wrote
     requires { spec.Due sent bytes.now }
     ensures { result.total ≡ (sent + length bytes.now) % 2 ^ 64 }
 {
     let total = std::num::wrapping_add_usize(sent, bytes.len());
-    if io::write_all(1, bytes) {
+    if streams.stdout.write_all(bytes).is_ok() {
         return Wrote { total, good: true };
     }
-    complain(b"replay: an answer could not be written\n");
+    complain(b"replay: an answer could not be written\n", streams);
     Wrote { total, good: false }
 }
 
 // The bytes to be answered after those up to `from`: where the buffer was full, the rest; else what is kept of a line that isn't
 // whole, and a read behind it.
-fn more_bytes(inp: &mut [u8], from: usize, n: usize, full: bool, got: usize) -> Pending
+fn more_bytes(
+    inp: &mut [u8],
+    from: usize,
+    n: usize,
+    full: bool,
+    got: usize,
+    streams: Streams,
+) -> Pending
     requires { (from ≤ n) × (n ≤ length inp.old) × (length inp.old ≡ buffer_size) }
     ensures { (result.from ≤ result.n) × (result.n ≤ buffer_size) × spec.Follows full (drop from (take n inp.old)) got (drop result.from (take result.n inp.new)) result.got result.more }
 {
@@ -118,35 +134,37 @@ fn more_bytes(inp: &mut [u8], from: usize, n: usize, full: bool, got: usize) -> 
         };
     }
     let kept = keep(inp, from, n);
-    read_after(inp, kept, got)
+    read_after(inp, kept, got, streams)
 }
 
 // Reads after the bytes kept, which stay as they are. No more bytes than these are there where the input ends, or the read fails.
-fn read_after(inp: &mut [u8], kept: usize, got: usize) -> Pending
+fn read_after(inp: &mut [u8], kept: usize, got: usize, streams: Streams) -> Pending
     requires { (kept < buffer_size) × (length inp.old ≡ buffer_size) }
     ensures { (result.from ≡ 0) × (result.n ≤ buffer_size) × spec.Reads (take kept inp.old) got (take result.n inp.new) result.got result.more }
 {
     let part = &mut inp[kept..];
-    let answer = libc::read(0, part);
-    let count = io::count(answer, part);
+    let mut stdin = streams.stdin;
+    let answer = stdin.read(part);
+    let good = answer.is_ok();
+    let count = answer.unwrap_or(0);
     let n = kept + count;
     Pending {
         from: 0,
         n,
         got: std::num::wrapping_add_usize(got, count),
         more: 0 < count,
-        good: 0 <= answer,
+        good,
     }
 }
 
 // The end of the input: a line that it tears is answered, and that is written. Of a read that failed it is said that it did.
-fn finish(end: Pending, out: &mut [u8], sent: usize) -> Ran
+fn finish(end: Pending, out: &mut [u8], sent: usize, streams: Streams) -> Ran
     requires { (length out.old ≡ buffer_size) × (end.from ≤ end.n) × spec.Due sent (spec.torn_text (end.n - end.from)) }
     ensures { (result.got ≡ end.got) × (result.good ≡ true → result.sent ≡ (sent + length (spec.torn_text (end.n - end.from))) % 2 ^ 64) × (result.failed ≡ not result.good) }
 {
     let got = end.got;
     if !end.good {
-        complain(b"replay: the input could not be read\n");
+        complain(b"replay: the input could not be read\n", streams);
         return Ran {
             got,
             sent,
@@ -156,7 +174,7 @@ fn finish(end: Pending, out: &mut [u8], sent: usize) -> Ran
     }
     let left = end.n - end.from;
     let n = put_torn(left, out);
-    let told = written(&out[..n], sent);
+    let told = written(&out[..n], sent, streams);
     Ran {
         got,
         sent: told.total,

@@ -8,8 +8,15 @@ mod lines;
 mod others;
 mod turns;
 
-fn main() {
-    let mut inp = io::large_buffer();
-    let mut out = io::large_buffer();
-    lines::run(&mut inp, &mut out);
+use lines::Streams;
+
+fn main(rt: HostRuntime) {
+    let mut inp = [0u8; 65536];
+    let mut out = [0u8; 65536];
+    let streams = Streams {
+        stdin: rt.stdin(),
+        stdout: rt.stdout(),
+        stderr: rt.stderr(),
+    };
+    lines::run(&mut inp, &mut out, streams);
 }

@@ -7,6 +7,7 @@ use crate::errors::put_error;
 use answers::said::put_ok;
 use session::event::Other;
 
+#[tactic(auto, unfolding(crate::specs::Events::is_fresh))]
 pub(crate) fn is_fresh(other: Other) -> bool
     ensures { result ≡ spec.is_fresh other }
 {

@@ -129,7 +129,8 @@ pub(crate) fn take_line(
         },
         Event::Other(other) => {
             let taken = take_other(*motors, other, inp, n, out, c);
-            *motors = taken.motors;
+            let left = taken.motors;
+            *motors = left;
             return taken.cursor;
         }
     }

@@ -1,5 +1,5 @@
 -- Demand 2: the functions' own contracts promise document 01's definitions, and ask nothing of a caller; a value accepted for writing and echoed is held; what is held
--- came in a reply, has the table's kind, and writes out the bytes that its kind uses. `Carries`, `Sent`, `WrittenOut` and `heldKind`
+-- came in a reply, has the table's kind, and writes out the bytes that its kind uses. `Carries`, `Sent`, `WrittenOut` and `held_kind`
 -- are the motor's. Definitions only.
 use Rattle.std.specs.Prelude.{ℕ, ◌<◌, ◌≡◌, Bool, true, false, List, [], ◌∷◌, ◌⊎◌, get_or}
 use Rattle.std.proofs.Math.Option.{Option, none, some}

@@ -47,6 +47,11 @@ module _ (motors kind parameter : ℕ) (st : Station) (id : ℕ) where
       let k = next-taken (times - (count + 1)) in
       rw (p, q, g, e) (omega (arith, rw (s, k) at h))
 
+  pub begins : (times : ℕ) → 0 + taken_from motors kind parameter st id (times - 0) ≡ taken_from motors kind parameter st id times
+  begins times =
+      let e : times - 0 ≡ times = omega arith in
+      rw e (omega arith)
+
   pub ends : (taken left total : ℕ) → left ≡ 0 → taken + taken_from motors kind parameter st id left ≡ total → taken ≡ total
   unfolding taken_from
   ends taken left total e h = omega (arith, rw e at h)

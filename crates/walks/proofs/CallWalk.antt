@@ -1,4 +1,4 @@
--- A call on a lent station is right because it asks the ids of the eight places where it goes, and what it stores at that place, and what it returns, are the parts of the by_value function's answer there; the other places aren't touched. An edit stores a part of the place, one element of the array within it, a part of another, and a number.
+-- A call on a lent station is right because it asks the ids of the eight places where it goes, and what it stores at that place, and what it returns, are the parts of the by-value function's answer there; the other places aren't touched. An edit stores a part of the place, one element of the array within it, a part of another, and a number.
 use mathlib.Core.Path.{◌≡◌, refl, sym, ◌∙◌, subst}
 use mathlib.Core.Bool.{Bool, true, false, not}
 use Prim.Native.Nat.{ℕ, ◌*◌, ◌<◌, ◌^◌}
@@ -63,7 +63,7 @@ values (τ ∷ τs) = local τ value_local ∷ values τs
 
 -- ---- the call
 
--- S is an element of what is lent, Y a part of it, E an element of the array of `rows` elements of `esize` bytes within it, P what is asked, O the reply, Q where it goes, V₁, V₃ and V₂ the answers of the by_value functions
+-- S is an element of what is lent, Y a part of it, E an element of the array of `rows` elements of `esize` bytes within it, P what is asked, O the reply, Q where it goes, V₁, V₃ and V₂ the answers of the by-value functions
 module _ (S Y E P O D : Held) (Q V₁ V₂ V₃ : RattleType) (νq ν₁ ν₂ ν₃ νe : Sym) (spot : Q.Denot → ℕ) (mid : Q.Denot → D.Denot) (quiet edits : Q.Denot → Bool)
     (st₁ : V₁.Denot → Y.Denot) (res₁ : V₁.Denot → O.Denot) (st₂ : V₂.Denot → S.Denot) (res₂ : V₂.Denot → O.Denot) (st₃ : V₃.Denot → Y.Denot) (at₁ at₂ link free : V₃.Denot → ℕ) (one : V₃.Denot → E.Denot) (res₃ : V₃.Denot → O.Denot)
     (ident-path part-path rows-path link-path free-path : List PStep) (esize rows : ℕ) (none : S.Denot) (ident : S.Denot → ℕ) (part : S.Denot → Y.Denot) (put-part : S.Denot → Y.Denot → S.Denot) (put_one : S.Denot → ℕ → E.Denot → S.Denot) (put-link : S.Denot → ℕ → ℕ → S.Denot) (put-free : S.Denot → ℕ → S.Denot)
@@ -177,7 +177,7 @@ module _ (S Y E P O D : Held) (Q V₁ V₂ V₃ : RattleType) (νq ν₁ ν₂ �
   abbrev Arg : Type 0
   Arg = MutBor (List S.Denot) × (P.Denot × Unit {0})
 
-  -- the by_value functions' signatures
+  -- the by-value functions' signatures
   abbrev by_value : RattleType → RattleType → Signature
   by_value X Z = record { lifetimes = 0; outlives = []; params = plain (λ _. X) ∷ plain (λ _. still P) ∷ plain (λ _. Q) ∷ []; result = plain (λ _. Z) }
 
@@ -218,14 +218,14 @@ module _ (S Y E P O D : Held) (Q V₁ V₂ V₃ : RattleType) (νq ν₁ ν₂ �
     abbrev Edited : Contract 𝓤
     Edited = triple_of 𝓛 edited-signature edited-spec
 
-    module _ (size_fits : size < 2 ^ 64) (far : (i : ℕ) → i < 8 → i * size < 2 ^ 64) (small : (i : ℕ) → i < 8 → i < 2 ^ 64) (esize-fits : T (ltb esize (2 ^ 64))) (far-row : (k : ℕ) → k < rows → k * esize < 2 ^ 64) (small_row_lem : (k : ℕ) → k < rows → k < 2 ^ 64)
+    module _ (size_fits : size < 2 ^ 64) (far : (i : ℕ) → i < 8 → i * size < 2 ^ 64) (small : (i : ℕ) → i < 8 → i < 2 ^ 64) (esize-fits : T (ltb esize (2 ^ 64))) (far-row : (k : ℕ) → k < rows → k * esize < 2 ^ 64) (small-row : (k : ℕ) → k < rows → k < 2 ^ 64)
         (routed-said : (is : List ℕ) (p : P.Denot) (r : Q.Denot) → ent 𝓤 (routed-ensures is p r) (fact 𝓤 ((r ≡ route is p) × (spot r < 8))))
         (kept-said : (y : Y.Denot) (p : P.Denot) (r : Q.Denot) (v : V₁.Denot) → ent 𝓤 (kept-ensures y p r v) (fact 𝓤 (v ≡ f₁ y p r)))
         (visited-said : (s : S.Denot) (p : P.Denot) (r : Q.Denot) (v : V₂.Denot) → ent 𝓤 (visited-ensures s p r v) (fact 𝓤 (v ≡ f₂ s p r)))
         (edited-said : (s : S.Denot) (p : P.Denot) (v : V₃.Denot) → ent 𝓤 (edited-ensures s p v) (fact 𝓤 ((v ≡ f₃ s p) × (at₁ v < rows) × (at₂ v < rows))))
         (Sk : Known 𝓛 S) (Yk : Known 𝓛 Y) (Ek : Known 𝓛 E) (Pk : Known 𝓛 P) (Ok : Known 𝓛 O) (Qk : Routes 𝓛 D Q νq spot mid quiet edits) (Vk₁ : Answers Y O V₁ ν₁ st₁ res₁) (Vk₂ : Answers S O V₂ ν₂ st₂ res₂) (Vk₃ : Edits Y E O V₃ ν₃ νe st₃ at₁ one at₂ link free res₃)
         (sight : Sight 𝓛 S (uint w16) ident-path ident) (state : Lens 𝓛 S Y part-path part put-part) (all : Lens 𝓛 S S [] (λ h. h) (λ h z. z))
-        (ones : Rows 𝓛 S E E.ty esize rows rows-path [] put_one) (links : Rows 𝓛 S (uint w16) E.ty esize rows rows-path link-path put-link) (Free-of : S.Denot → ℕ) (frees : Lens 𝓛 S (uint w16) free-path Free-of put-free)
+        (ones : Rows 𝓛 S E E.ty esize rows rows-path [] put_one) (links : Rows 𝓛 S (uint w16) E.ty esize rows rows-path link-path put-link) (free-of : S.Denot → ℕ) (frees : Lens 𝓛 S (uint w16) free-path free-of put-free)
         (holds-quiet : (κs : Lfts 1) (m : MutBor (List S.Denot)) (a : P.Denot) (r : Q.Denot) (v : V₁.Denot) → length m.now ≡ 8 → r ≡ route (ids m.now) a → quiet r ≡ true
         → v ≡ f₁ (part (get_or m.now (spot r) none)) a r → ent 𝓤 (emp 𝓤) (promised κs m a (res₁ v) (at_last m (set m.now (spot r) (put-part (get_or m.now (spot r) none) (st₁ v))))))
         (holds-edit : (κs : Lfts 1) (m : MutBor (List S.Denot)) (a : P.Denot) (r : Q.Denot) (v : V₃.Denot) → length m.now ≡ 8 → r ≡ route (ids m.now) a → quiet r ≡ false → edits r ≡ true
@@ -365,12 +365,12 @@ module _ (S Y E P O D : Held) (Q V₁ V₂ V₃ : RattleType) (νq ν₁ ν₂ �
               assigns ! (bin ! {b = vint w64 size} (load ! (from ! (stop !)) (look ! 125 refl)) (record { go = λ Kt hh. via 𝓤 (Kt (vint w64 (size))) hh (guard_i 𝓤 (Fits w64 (size)) (Kt (vint w64 (size))) (record { fits = size_fits })) }) (record { fits = far i within })) (from ! (stop !)) (store ! 51 refl (tt, record { fits = far i within })) $ assigns ! (addr ! (from ! (hop ! (look ! 133 refl) (stop !)))) (from ! (stop !)) (init ! 43 refl (tt, tt)) $ assigns ! (bin ! (load ! (from ! (stop !)) (look ! 43 refl)) (load ! (from ! (stop !)) (look ! 51 refl)) tt) (from ! (stop !)) (init ! 41 refl (tt, tt)) $ rewrite ! 41 (λ (p : ℕ). ‵ (fat full_share ty_ptr l47 0 (vptr b p))) (sym (place_is size o i)) refl $
               assigns ! (of_opd ! (load ! (from ! (fld ! refl (stop !))) (look_in ! 121 (sub ! 0 refl (whole !))))) (from ! (hop ! (look ! 41 refl) (state.sight.way b (place_of size o i)))) (store_in ! 0 (state.sight.cell full_share b (place_of size o i) h) (Yk.fits (st₃ v) _ (Vk₃.state v w v-is))) $ rewrite ! 0 (λ (z : Val). ‵ (fat full_share (raw_ty S.ty) b (place_of size o i) z)) (state.put_is h (st₃ v)) refl $
               -- a record
-              assigns ! (of_opd ! (load ! (from ! (fld ! refl (fld ! refl (stop !)))) (look_in ! 121 (sub ! 0 refl (sub ! 1 refl (whole !)))))) (from ! (stop !)) (init ! 119 refl (tt, record { fits = small_row_lem (at₁ v) e.1 })) $
+              assigns ! (of_opd ! (load ! (from ! (fld ! refl (fld ! refl (stop !)))) (look_in ! 121 (sub ! 0 refl (sub ! 1 refl (whole !)))))) (from ! (stop !)) (init ! 119 refl (tt, record { fits = small-row (at₁ v) e.1 })) $
               assigns ! (bin ! {b = vint w64 size} (load ! (from ! (stop !)) (look ! 125 refl)) (record { go = λ Kt hh. via 𝓤 (Kt (vint w64 (size))) hh (guard_i 𝓤 (Fits w64 (size)) (Kt (vint w64 (size))) (record { fits = size_fits })) }) (record { fits = far i within })) (from ! (stop !)) (store ! 51 refl (tt, record { fits = far i within })) $ assigns ! (addr ! (from ! (hop ! (look ! 133 refl) (stop !)))) (from ! (stop !)) (init ! 39 refl (tt, tt)) $ assigns ! (bin ! (load ! (from ! (stop !)) (look ! 39 refl)) (load ! (from ! (stop !)) (look ! 51 refl)) tt) (from ! (stop !)) (init ! 37 refl (tt, tt)) $ rewrite ! 37 (λ (p : ℕ). ‵ (fat full_share ty_ptr l49 0 (vptr b p))) (sym (place_is size o i)) refl $
               assigns ! (bin ! {b = vint w64 esize} (load ! (from ! (stop !)) (look ! 119 refl)) (lit ! esize-fits) (record { fits = far-row (at₁ v) e.1 })) (from ! (stop !)) (init ! 35 refl (tt, record { fits = far-row (at₁ v) e.1 })) $ assigns ! (addr ! (from ! (hop ! (look ! 37 refl) (ones.way b (place_of size o i))))) (from ! (stop !)) (init ! 33 refl (tt, tt)) $ assigns ! (bin ! (load ! (from ! (stop !)) (look ! 33 refl)) (load ! (from ! (stop !)) (look ! 35 refl)) tt) (from ! (stop !)) (init ! 31 refl (tt, tt)) $ rewrite ! 31 (λ (p : ℕ). ‵ (fat full_share ty_ptr l52 0 (vptr b p))) (sym (place_is esize (ones.base (place_of size o i)) (at₁ v))) refl $
               assigns ! (of_opd ! (load ! (from ! (fld ! refl (fld ! refl (stop !)))) (look_in ! 121 (sub ! 1 refl (sub ! 1 refl (whole !)))))) (from ! (hop ! (look ! 31 refl) (ones.on b _))) (store_in ! 0 (ones.cell full_share b (place_of size o i) h₁ (at₁ v) g₁ e.1) (Ek.fits (one v) _ (Vk₃.one v w v-is))) $ rewrite ! 0 (λ (z : Val). ‵ (fat full_share (raw_ty S.ty) b (place_of size o i) z)) (ones.put_is h₁ (at₁ v) (one v)) refl $
               -- the next of a record
-              assigns ! (of_opd ! (load ! (from ! (fld ! refl (fld ! refl (stop !)))) (look_in ! 121 (sub ! 2 refl (sub ! 1 refl (whole !)))))) (from ! (stop !)) (init ! 117 refl (tt, record { fits = small_row_lem (at₂ v) e.2 })) $
+              assigns ! (of_opd ! (load ! (from ! (fld ! refl (fld ! refl (stop !)))) (look_in ! 121 (sub ! 2 refl (sub ! 1 refl (whole !)))))) (from ! (stop !)) (init ! 117 refl (tt, record { fits = small-row (at₂ v) e.2 })) $
               assigns ! (bin ! {b = vint w64 size} (load ! (from ! (stop !)) (look ! 125 refl)) (record { go = λ Kt hh. via 𝓤 (Kt (vint w64 (size))) hh (guard_i 𝓤 (Fits w64 (size)) (Kt (vint w64 (size))) (record { fits = size_fits })) }) (record { fits = far i within })) (from ! (stop !)) (store ! 51 refl (tt, record { fits = far i within })) $ assigns ! (addr ! (from ! (hop ! (look ! 133 refl) (stop !)))) (from ! (stop !)) (init ! 29 refl (tt, tt)) $ assigns ! (bin ! (load ! (from ! (stop !)) (look ! 29 refl)) (load ! (from ! (stop !)) (look ! 51 refl)) tt) (from ! (stop !)) (init ! 27 refl (tt, tt)) $ rewrite ! 27 (λ (p : ℕ). ‵ (fat full_share ty_ptr l54 0 (vptr b p))) (sym (place_is size o i)) refl $
               assigns ! (bin ! {b = vint w64 esize} (load ! (from ! (stop !)) (look ! 117 refl)) (lit ! esize-fits) (record { fits = far-row (at₂ v) e.2 })) (from ! (stop !)) (store ! 35 refl (tt, record { fits = far-row (at₂ v) e.2 })) $ assigns ! (addr ! (from ! (hop ! (look ! 27 refl) (links.way b (place_of size o i))))) (from ! (stop !)) (init ! 25 refl (tt, tt)) $ assigns ! (bin ! (load ! (from ! (stop !)) (look ! 25 refl)) (load ! (from ! (stop !)) (look ! 35 refl)) tt) (from ! (stop !)) (init ! 23 refl (tt, tt)) $ rewrite ! 23 (λ (p : ℕ). ‵ (fat full_share ty_ptr l56 0 (vptr b p))) (sym (place_is esize (links.base (place_of size o i)) (at₂ v))) refl $
               assigns ! (of_opd ! (load ! (from ! (fld ! refl (fld ! refl (stop !)))) (look_in ! 121 (sub ! 3 refl (sub ! 1 refl (whole !)))))) (from ! (hop ! (look ! 23 refl) (links.on b _))) (store_in ! 0 (links.cell full_share b (place_of size o i) h₂ (at₂ v) g₂ e.2) (tt, record { fits = (Vk₃.link v w v-is).1 })) $ rewrite ! 0 (λ (z : Val). ‵ (fat full_share (raw_ty S.ty) b (place_of size o i) z)) (links.put_is h₂ (at₂ v) (link v)) refl $

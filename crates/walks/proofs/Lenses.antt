@@ -78,13 +78,13 @@ edited_ty_of ν νe Y E O = ty_struct ν (tcons Y.ty (tcons (ty_struct νe (tcon
 abbrev pub edited_val_of : (Y E O : Held) → Y.Denot → ℕ → E.Denot → ℕ → ℕ → ℕ → O.Denot → Val
 edited_val_of Y E O y i e k l f z = vstruct (vcons (Y.val y) (vcons (vstruct (vcons (vint w64 i) (vcons (E.val e) (vcons (vint w64 k) (vcons (vint w16 l) (vcons (vint w16 f) vnil)))))) (vcons (O.val z) vnil)))
 
-pub record Edits (Y E O : Held) (V₃ : RattleType) (ν νe : Sym) (st : V₃.Denot → Y.Denot) (at₁ : V₃.Denot → ℕ) (one_of_lem : V₃.Denot → E.Denot) (at₂ link-of Free-of : V₃.Denot → ℕ) (res : V₃.Denot → O.Denot) : Type 1 where
+pub record Edits (Y E O : Held) (V₃ : RattleType) (ν νe : Sym) (st : V₃.Denot → Y.Denot) (at₁ : V₃.Denot → ℕ) (one-of : V₃.Denot → E.Denot) (at₂ link-of free-of : V₃.Denot → ℕ) (res : V₃.Denot → O.Denot) : Type 1 where
   pub fits : (v : V₃.Denot) (u : Val) → Is V₃ v (u ∷ []) → T (has_ty (edited_ty_of ν νe Y E O) u) × WT u
-  pub tells : (v : V₃.Denot) (u : Val) → Is V₃ v (u ∷ []) → ◌≡◌ {A = List Val} (u ∷ []) (edited_val_of Y E O (st v) (at₁ v) (one_of_lem v) (at₂ v) (link-of v) (Free-of v) (res v) ∷ [])
+  pub tells : (v : V₃.Denot) (u : Val) → Is V₃ v (u ∷ []) → ◌≡◌ {A = List Val} (u ∷ []) (edited_val_of Y E O (st v) (at₁ v) (one-of v) (at₂ v) (link-of v) (free-of v) (res v) ∷ [])
   pub state : (v : V₃.Denot) (u : Val) → Is V₃ v (u ∷ []) → Is (row Y) (st v) (Y.val (st v) ∷ [])
-  pub one : (v : V₃.Denot) (u : Val) → Is V₃ v (u ∷ []) → Is (row E) (one_of_lem v) (E.val (one_of_lem v) ∷ [])
+  pub one : (v : V₃.Denot) (u : Val) → Is V₃ v (u ∷ []) → Is (row E) (one-of v) (E.val (one-of v) ∷ [])
   pub link : (v : V₃.Denot) (u : Val) → Is V₃ v (u ∷ []) → Is (row (uint w16)) (link-of v) (vint w16 (link-of v) ∷ [])
-  pub free : (v : V₃.Denot) (u : Val) → Is V₃ v (u ∷ []) → Is (row (uint w16)) (Free-of v) (vint w16 (Free-of v) ∷ [])
+  pub free : (v : V₃.Denot) (u : Val) → Is V₃ v (u ∷ []) → Is (row (uint w16)) (free-of v) (vint w16 (free-of v) ∷ [])
   pub result : (v : V₃.Denot) (u : Val) → Is V₃ v (u ∷ []) → Is (row O) (res v) (O.val (res v) ∷ [])
 
 -- ---- an element of an array within a value
