@@ -13,7 +13,7 @@ from .bench import Bench, Unready, lay, rt, unapplied
 from .mutants import mutants_of
 from .repository import BadEdit, Edit, Repository
 from .tries import MutantTally, Tally, line_of, tried
-from .verdict import ELSEWHERE, PROVED, REFUSED, Verdict, is_settled, verdicts_of
+from .verdict import ELSEWHERE, PROVED, REFUSED, UNTOLD, Verdict, is_settled, verdicts_of
 
 # What rt must-fail says where a crate as it stands isn't proved; it then tries each edit all the same.
 UNPROVED = re.compile(r"^rt: (\S+): the check that its must-fail edits begin with did not end well", re.M)
@@ -87,6 +87,10 @@ def must_fail(repository: Repository, room: Path, edits: list[Edit], jobs: int |
                 raise Unready(said)
     _, said = rt(root, "must-fail", *(["--anew"] if anew else []), *crates, jobs=jobs)
     verdicts = verdicts_of(said)
+    if any(verdict.ending == UNTOLD for verdict in verdicts.values()):
+        # a check that was killed, most likely for memory; what was told is kept
+        _, said = rt(root, "must-fail", *crates, jobs=jobs)
+        verdicts = verdicts_of(said)
     if UNPROVED.search(said) or any(edit.label not in verdicts for edit in edits):
         raise Unready(said)
     return verdicts
