@@ -289,6 +289,7 @@ class OnTexts(unittest.TestCase):
             gone = "./proofs/seven/Answers.antt:2:1: error: `f`: module `M` has no `x`\nnote: src/lib.rt:9:1: it is not proved that it holds\nlogic=not-proved\n"
             self.assertEqual(told(1, gone, Aim(function="seven")), (REFUSED, "src/lib.rt:9:1", FACT))
             self.assertEqual(shown_by("`rw`: no occurrence of the path's left endpoint in the goal")[0], FIT)
+            self.assertEqual(shown_by("`retry-pauses`: `is_pausing op ≟ true`: does not hold")[0], FACT)
 
     def test_mutants_change_code_alone(self) -> None:
         text = (

@@ -36,6 +36,7 @@ WORDS = (
     ("it is not proved that", FACT, "a goal isn't proved"),
     ("did not prove", FACT, "a goal isn't proved"),
     ("the goal does not follow", FACT, "a counterexample"),
+    ("does not hold", FACT, "two sides differ"),
     ("must be a path whose two ends are equal", FACT, "two sides differ"),
     ("give a proof of that as the last argument", FACT, "two sides differ"),
     ("`search`: no proof", FACT, "a goal isn't proved"),
