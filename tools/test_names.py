@@ -3,8 +3,8 @@
     python3 tools/test_names.py
 
 A contract that says `result ≡ definition` of the function's own parameters names the definition by the function: that of `fn
-some_name` is `some_name`; of a method the type comes first; a function that puts text, `put_thing`, puts `thing_text`; one word may
-have a preposition or the type of the result after it (docs/ARCHITECTURE.md, 'Names').
+some_name` is `some_name`; of a method the type comes first; a function that puts text into a buffer, `put_thing`, puts `thing_text`; one
+word may have a preposition or the type of the result after it (docs/ARCHITECTURE.md, 'Names').
 """
 
 from __future__ import annotations
@@ -22,8 +22,14 @@ PREPOSITIONS = ("of", "in", "at", "by", "to")
 TESTS_ONLY = ("codec_abi", "codec_abi_c", "station_abi", "vectors")
 # a function that promises another function's definition, and why
 PROMISED = {
+    "answers/src/said.rt put_last_line": "last_line: the last line of what is said to a start or a step, older than its function",
+    "codec/src/model.rt name": "model_text: the text of a model, as answers' definitions of text are called",
+    "codec/src/protocol.rt of_kind": "value_as: the definitions of document 01's values are older than their type's methods",
+    "codec/src/protocol.rt kind": "kind_in, likewise",
+    "codec/src/protocol.rt raw": "raw_of, likewise",
     "codec/src/replies.rt ping_reply": "ping_reply_of: `ping_reply` is a field of the motor's state, and a clause would read that",
     "motor/src/engine/moves.rt count_by": "acknowledgement_count: `count_by` is a word of the library",
+    "motor/src/motor.rt idle_at": "remove_said: a removal's two tests are a start's first",
 }
 # a name that several types have, and why
 TYPES = {
@@ -46,12 +52,12 @@ class Function:
 def functions(crates: Path) -> Iterator[Function]:
     for path in sorted(crates.glob("*/src/**/*.rt")):
         text = path.read_text()
-        heads = list(re.finditer(r"^ *(?:pub(?:\(\w+\))? )?(?:extern \"C\" )?fn (\w+)\(", text, re.M))
+        heads = list(re.finditer(r"^ *(?:pub(?:\(\w+\))? )?(?:extern \"C\" )?fn (\w+)(?:<[^>(]*>)?\(", text, re.M))
         for head, after in zip(heads, [*heads[1:], None]):
             whole = text[head.end() : after.start() if after else len(text)]
             signature = re.match(r"([^)]*)\)(?: -> ([^\n{]+))?", whole)
             assert signature, head[1]
-            owners = re.findall(r"^(?:impl (\w+)|(\}))", text[: head.start()], re.M)
+            owners = re.findall(r"^(?:impl(?:<[^>]*>)? (\w+)|(\}))", text[: head.start()], re.M)
             yield Function(
                 place=f"{path.relative_to(crates)} {head[1]}",
                 name=head[1],
@@ -93,11 +99,11 @@ def promised(function: Function) -> Iterator[tuple[str, bool]]:
     for contract in function.contracts:
         text = re.sub(r"\b(\w+)\.(?:old|now)\b", r"\1", contract).replace("«", "").replace("»", "")
         said = re.match(r"\(?result ≡ ([a-z][\w.]*)((?: \w+)*)(?=\)? ×|$)", text)
-        put = re.match(r"Put out \w+ \(?([a-z][\w.]*)((?: \w+)*)\)? out\.new result$", text)
+        put = re.match(r"out\.new ≡ put out \(?([a-z][\w.]*)((?: \w+)*)\)?$", text)
         found = said or put
         if not found:
             continue
-        own = [name for name in function.parameters if not (put and name in ("out", "at"))]
+        own = [name for name in function.parameters if not (put and name == "out")]
         if sorted(found[2].split()) == sorted(own):
             yield found[1].split(".")[-1], found is put
 
@@ -162,16 +168,16 @@ class Names(unittest.TestCase):
 TOLD = """
 fn hear_state(s: State, now: u64) -> State
     ensures { result ≡ state_heard s now }
-fn put_ok(n: u64, out: &mut [u8], at: usize) -> usize
-    ensures { Put out.old at (ok_of n) out.new result }
+fn put_ok<const N: usize>(n: u64, out: &mut Text<N>)
+    ensures { out.new ≡ put out.old (ok_of n) }
 fn look(st: &[u8], id: u16) -> Looked
     ensures is {
         (result ≡ spec.shown_in st.now id) × (id ≤ 9)
     }
 fn told_by(s: State) -> State
     ensures { result ≡ told_by s }
-fn put_no(n: u64, out: &mut [u8], at: usize) -> usize
-    ensures { Put out.old at (spec.no_text n) out.new result }
+fn put_no<const N: usize>(n: u64, out: &mut Text<N>)
+    ensures { out.new ≡ put out.old (spec.no_text n) }
 fn new(id: u16) -> Motor
     ensures { result ≡ new_motor id }
 fn start(s: State) -> State

@@ -1,3 +1,3 @@
-pub mod Shifts
+pub mod Named
 pub mod Lengths
 pub mod ReadBack

@@ -1,117 +1,69 @@
 -- What is printed is read back by session: a command's name as its row, a frame as that frame. Assumes nothing.
-use Prim.Native.Nat.{ℕ, zero, suc, ◌+◌, ◌*◌, ◌-◌, ◌/◌, ◌%◌, ◌^◌, ◌≤◌, ◌<◌}
-use mathlib.Core.Path.{◌≡◌, refl, sym, ap, subst, ◌∙◌}
-use mathlib.Core.Bool.{Bool, true, false, ◌&&◌}
-use mathlib.Core.List.{List, [], ◌∷◌, ◌++◌, append-nil, append_assoc}
-use native.Mathlib.Omega.{arith}
-use native.Mathlib.Nat.{not-suc-le-zero}
-use lib.Dec.{T, eqb, ltb, eqb→eq, ltb→lt}
-use lib.Ieee.Fits.{and_l, and_r}
-use lib.ListN.{length, take, drop, get_or, length-append}
+use Rattle.std.proofs.Common.{ℕ, zero, suc, ◌+◌, ◌*◌, ◌-◌, ◌/◌, ◌%◌, ◌^◌, ◌≤◌, ◌<◌, ◌≡◌, refl, sym, ap, ◌∙◌, true, List, [], ◌∷◌, ◌++◌, map, length, take, drop, get_or, append-nil, append_assoc, length-append, Some, Ok, arith, le-ltb, lt-ltb}
+use Rattle.std.proofs.lemmas.List.FromFn.{get_or-map-range_with_len}
+use Rattle.std.specs.List.{range_with_len}
 use lib.Seq.{take_at, drop_at, get_or_at}
-use borrow.Author.Tests.{le-ltb, lt-ltb, lt-leb, ne_eqb, eqb-true, eqb-false}
+use borrow.Author.Tests.{ne_eqb}
 use borrow.Enum.Match.{tag_small}
 use denote.Enum.Declared.{variants}
-use Rattle.text.specs.Search.{index_of, index_after}
 use Rattle.codec.specs.declared.bus.CanFrame.{CanFrame}
 use Rattle.motor.specs.declared.engine.command.Command.{Command}
 use Rattle.motor.specs.contracts.engine.command.Command.{the_type}
-use Rattle.text.specs.declared.numbers.Num.TheVariants.{Value}
 use Rattle.text.specs.Ascii.{ascii}
 use Rattle.text.specs.Numbers.{digits_in, read_from}
 use Rattle.text.specs.Put.{glyph_of, digits_text, decimal_in}
+use Rattle.text.specs.Search.{index_of, index_after, position_of}
 use Rattle.text.specs.Words.{word_count, word_at, same_bytes}
-use Rattle.text.proofs.Reading.{some}
+use Rattle.text.proofs.Reading.{some, place-is, words-cons}
 use Rattle.text.proofs.ReadBack.{glyph-range, read-glyph, read-digits, digits-length, digits-back, decimal-some, decimal-back, index-past, free-append, digits-free, decimal-free, word_first, word-later, word-only, words-past}
+use Rattle.session.specs.declared.event.Line.{Line}
 use Rattle.session.specs.Events.{payload, can_frame, hands}
-use Rattle.session.specs.Table.{commands, place_of, row_from, shape_at, row_at}
+use Rattle.session.specs.Table.{commands, row_of, row_from}
 use Rattle.session.specs.Commands.{command_of, started_by, started}
 use Rattle.session.specs.Heard.{milliseconds_of, stamp_in, stamp_of, shifted_by, data_of, data_frame, logged_frame, heard_in}
-use Rattle.session.specs.Lines.{read_line}
+use Rattle.session.specs.Lines.{said_in, read_line}
 use Rattle.answers.specs.Values.{payload_number}
 use Rattle.answers.specs.Names.{command_place, command_text}
-use Rattle.answers.specs.Said.{stamp_text, frame_line, frame_text}
+use Rattle.answers.specs.Said.{frame_line}
 use Rattle.answers.proofs.Lengths.{frame-short}
 
 -- ---- commands
 
--- at a place of the table begins row k, with the shape that follows its name
-abbrev Begins : ℕ → ℕ → Type 0
-Begins k at = (at < length commands) × (row_at commands at ≡ k) × (shape_at commands at ≡ word_at commands (2 * k + 1))
-
--- the name is found in its row, and a command of that row has the name
-abbrev Row : Command → List ℕ → Type 0
-Row c v =
-    Begins (command_place c) (place_of commands (command_text c))
-    × (command_place (command_of (command_place c) v) ≡ command_place c)
-
-same-list : (a b : List ℕ) → T (same_bytes a b) → a ≡ b
-unfolding same_bytes
-same-list [] [] t = refl
-same-list [] (y ∷ b) t = absurd t
-same-list (x ∷ a) [] t = absurd t
-same-list (x ∷ a) (y ∷ b) t =
-    rw (eqb→eq x y (and_l (eqb x y) (same_bytes a b) t), same-list a b (and_r (eqb x y) (same_bytes a b) t))
-
--- a test at each number below n
-abbrev below : (ℕ → Bool) → ℕ → Bool
-below p zero = true
-below p (suc n) = p n && below p n
-
-at_each : (p : ℕ → Bool) (n : ℕ) → T (below p n) → (k : ℕ) → k < n → T (p k)
-at_each p zero t k h = absurd (not-suc-le-zero h)
-at_each p (suc n) t k h = go (eqb k n) refl (at_each p n (and_r (p n) (below p n) t) k)
-  where
-    go : (b : Bool) → eqb k n ≡ b → (k < n → T (p k)) → T (p k)
-    go true e before = subst (λ (m : ℕ). T (p m)) (sym (eqb-true k n e)) (and_l (p n) (below p n) t)
-    go false e before = let apart : k ≡ n → ⊥ = eqb-false k n e in before (omega arith)
-
-is_row : ℕ → ℕ → Bool
-is_row k at = eqb (row_at commands at) k && same_bytes (shape_at commands at) (word_at commands (2 * k + 1))
-
-begins : (k at : ℕ) → T (ltb at (length commands) && is_row k at) → Begins k at
-unfolding is_row
-begins k at t =
-    let r = and_r (ltb at (length commands)) (is_row k at) t in
-    let n = eqb (row_at commands at) k in
-    let s = same_bytes (shape_at commands at) (word_at commands (2 * k + 1)) in
-    (ltb→lt _ _ (and_l (ltb at (length commands)) (is_row k at) t), eqb→eq _ _ (and_l n s r), same-list _ _ (and_r n s r))
-
-is_found : ℕ → Bool
-is_found k = ltb (place_of commands (word_at commands (2 * k))) (length commands) && is_row k (place_of commands (word_at commands (2 * k)))
-
-is_kept : List ℕ → ℕ → Bool
-is_kept v k = eqb (command_place (command_of k v)) k
-
 abbrev rows : ℕ
 rows = length (variants the_type)
 
-each-found : T (below is_found rows)
-unfolding is_found is_row place_of row_from word_count word_at same_bytes index_of index_after
-each-found = tt
+-- what holds of each row at once, for row k
+at_row : {X : Type 0} (f g : ℕ → X) → map f (range_with_len 0 rows) ≡ map g (range_with_len 0 rows) → (k : ℕ) → k < rows → f k ≡ g k
+at_row f g e k h =
+    sym (get_or-map-range_with_len f 0 rows k k (f k) h (omega arith))
+    ∙ ap (λ l. get_or l k (f k)) e
+    ∙ get_or-map-range_with_len g 0 rows k k (f k) h (omega arith)
 
-each-kept : (v : List ℕ) → T (below (is_kept v) rows)
-unfolding is_kept command_of
-each-kept v = tt
+-- the command that a row starts is of this row
+each-kept : (v : List ℕ) → map (λ (k : ℕ). command_place (command_of k v)) (range_with_len 0 rows) ≡ map (λ (k : ℕ). k) (range_with_len 0 rows)
+unfolding command_of
+each-kept v = refl
 
-row : (c : Command) (v : List ℕ) → Row c v
-unfolding is_found is_kept
-row c v =
-    let k = command_place c in
-    let h : k < rows = tag_small the_type c in
-    (begins k _ (at_each is_found rows each-found k h), eqb→eq _ _ (at_each (is_kept v) rows (each-kept v) k h))
+row-kept : (c : Command) (v : List ℕ) → command_place (command_of (command_place c) v) ≡ command_place c
+row-kept c v = at_row (λ (k : ℕ). command_place (command_of k v)) (λ (k : ℕ). k) (each-kept v) (command_place c) (tag_small the_type c)
+
+-- and is found by its name, the first word
+each-found : map (λ (k : ℕ). row_of commands (word_at commands (2 * k))) (range_with_len 0 rows) ≡ map (λ (k : ℕ). Some k) (range_with_len 0 rows)
+unfolding row_of row_from word_at same_bytes index_of index_after
+each-found = refl
+
+row_found : (c : Command) → row_of commands (command_text c) ≡ Some (command_place c)
+row_found c = at_row (λ (k : ℕ). row_of commands (word_at commands (2 * k))) (λ (k : ℕ). Some k) each-found (command_place c) (tag_small the_type c)
 
 -- a start with the name that is printed for a command is read as its row says
 pub command-read-back : (c : Command) (line : List ℕ) → word_at line 3 ≡ command_text c
     → started line ≡ started_by line (word_at commands (2 * command_place c + 1)) (command_place c)
 unfolding started
-command-read-back c line e =
-    let r = (row c []).0 in
-    rw (e, ne_eqb (place_of commands (command_text c)) (length commands) (λ h. omega (arith, h, r.0)), r.1, r.2)
+command-read-back c line e = rw (e, row_found c)
 
 -- and the command that it starts is printed by the same name
 pub same_name : (c : Command) (v : List ℕ) → command_text (command_of (command_place c) v) ≡ command_text c
-same_name c v = rw (row c v).1
+same_name c v = rw (row-kept c v)
 
 -- ---- frames: the stamp
 
@@ -142,7 +94,7 @@ stamp-word s m h six =
 abbrev micros_of : ℕ → List ℕ
 micros_of millis = digits_text 10 3 millis ++ 48 ∷ 48 ∷ 48 ∷ []
 
-micros-back : (n : ℕ) → n < 1000 → digits_in 10 (micros_of n) ≡ Value (n * 1000)
+micros-back : (n : ℕ) → n < 1000 → digits_in 10 (micros_of n) ≡ Some (n * 1000)
 unfolding read_from glyph_of
 micros-back n h =
     let z : ((n * 10 + 0) * 10 + 0) * 10 + 0 ≡ n * 1000 = omega arith in
@@ -156,7 +108,7 @@ micros-back n h =
 abbrev stamp_of_time : ℕ → List ℕ
 stamp_of_time time = stamp_word (decimal_in 20 (time / 1000)) (micros_of (time % 1000))
 
-stamp-back : (time : ℕ) → time < 18446744073709551616 → stamp_of (stamp_of_time time) ≡ Value time
+stamp-back : (time : ℕ) → time < 18446744073709551616 → stamp_of (stamp_of_time time) ≡ Some time
 unfolding milliseconds_of
 stamp-back time h =
     let t : time / 1000 * 1000 + time % 1000 * 1000 / 1000 ≡ time = omega arith in
@@ -174,27 +126,28 @@ stamp-free time =
 abbrev frame_word : ℕ → ℕ → List ℕ
 frame_word id n = digits_text 16 8 id ++ 35 ∷ digits_text 16 16 n
 
-data-at : (d : List ℕ) (time id n : ℕ) → length d ≡ 16 → 48 ≤ get_or d 0 0 → get_or d 0 0 ≤ 70 → digits_in 16 d ≡ Value n
-    → data_frame d time id true ≡ hands (can_frame id n true 8 true) time
+data-at : (d : List ℕ) (id n : ℕ) → length d ≡ 16 → 48 ≤ get_or d 0 0 → get_or d 0 0 ≤ 70 → digits_in 16 d ≡ Some n
+    → data_frame d id true ≡ Ok (can_frame id n true 8 true)
 unfolding data_frame data_of shifted_by
-data-at d time id n l a b r =
+data-at d id n l a b r =
     rw (l, ne_eqb (get_or d 0 0) 0x52 (λ e. omega arith), ne_eqb (get_or d 0 0) 0x23 (λ e. omega arith), r)
 
-frame_at : (w h d : List ℕ) (time id n : ℕ) → index_of 0x23 w ≡ 8 → 8 < length w → take 8 w ≡ h → drop 9 w ≡ d
-    → length h ≡ 8 → digits_in 16 h ≡ Value id → id ≤ 0x1FFF_FFFF → data_frame d time id true ≡ hands (can_frame id n true 8 true) time
-    → logged_frame w time ≡ hands (can_frame id n true 8 true) time
+frame_at : (w h d : List ℕ) (id n : ℕ) → index_of 0x23 w ≡ 8 → 8 < length w → take 8 w ≡ h → drop 9 w ≡ d
+    → length h ≡ 8 → digits_in 16 h ≡ Some id → id ≤ 0x1FFF_FFFF → data_frame d id true ≡ Ok (can_frame id n true 8 true)
+    → logged_frame w ≡ Ok (can_frame id n true 8 true)
 unfolding logged_frame
-frame_at w h d time id n i l t r k v s e =
+frame_at w h d id n i l t r k v s e =
+    let p : position_of 0x23 w ≡ Some 8 = place-is 0x23 w ∙ rw (i, lt-ltb 8 (length w) l) in
     let m : id % 2 ^ 32 ≡ id = omega arith in
-    rw (i, lt-leb _ _ l, t, r, k, v, le-ltb _ _ s, m) e
+    rw (p, t, r, k, v, le-ltb _ _ s, m) e
 
 first-digit : (n : ℕ) → (48 ≤ get_or (digits_text 16 16 n) 0 0) × (get_or (digits_text 16 16 n) 0 0 ≤ 70)
 unfolding digits_text
 first-digit n = glyph-range _ (omega arith)
 
-frame_back : (time id n : ℕ) → id ≤ 0x1FFF_FFFF → n < 18446744073709551616 → logged_frame (frame_word id n) time ≡ hands (can_frame id n true 8 true) time
+frame_back : (id n : ℕ) → id ≤ 0x1FFF_FFFF → n < 18446744073709551616 → logged_frame (frame_word id n) ≡ Ok (can_frame id n true 8 true)
 unfolding index_of index_after
-frame_back time id n s w =
+frame_back id n s w =
     let a = digits_text 16 8 id in
     let d = digits_text 16 16 n in
     let i : index_of 0x23 (frame_word id n) ≡ 8
@@ -203,9 +156,9 @@ frame_back time id n s w =
     let e : frame_word id n ≡ (a ++ 35 ∷ []) ++ d = simp append_assoc in
     let g : drop 9 (frame_word id n) ≡ d
     = ap (λ (l : List ℕ). drop 9 l) e ∙ drop_at (a ++ 35 ∷ []) d 9 (rw (length-append, digits-length)) in
-    frame_at (frame_word id n) a d time id n i l (take_at a (35 ∷ d) 8 (digits-length 16 8 id)) g (digits-length 16 8 id)
+    frame_at (frame_word id n) a d id n i l (take_at a (35 ∷ d) 8 (digits-length 16 8 id)) g (digits-length 16 8 id)
     (digits-back 16 8 id (omega arith) (omega arith) (omega arith) (omega arith) (omega arith)) s
-    (data-at d time id n (digits-length 16 16 n) (first-digit n).0 (first-digit n).1 (digits-back 16 16 n (omega arith) (omega arith) (omega arith) (omega arith) w))
+    (data-at d id n (digits-length 16 16 n) (first-digit n).0 (first-digit n).1 (digits-back 16 16 n (omega arith) (omega arith) (omega arith) (omega arith) w))
 
 frame-free : (id n : ℕ) → index_of 32 (frame_word id n) ≡ length (frame_word id n)
 unfolding index_of index_after
@@ -215,29 +168,29 @@ frame-free id n =
 
 -- ---- frames: the line
 
-heard-at : (line w f : List ℕ) (time : ℕ) → word_count line ≡ 3 → length (word_at line 1) ≡ 4 → word_at line 0 ≡ w → word_at line 2 ≡ f
-    → stamp_of w ≡ Value time → heard_in line ≡ logged_frame f time
+heard-at : (line w f : List ℕ) (x : CanFrame) (time : ℕ) → word_count line ≡ 3 → length (word_at line 1) ≡ 4 → word_at line 0 ≡ w → word_at line 2 ≡ f
+    → stamp_of w ≡ Some time → logged_frame f ≡ Ok x → heard_in line ≡ Ok (hands x time)
 unfolding heard_in
-heard-at line w f time n l a b s = rw (n, l, a, b, s)
+heard-at line w f x time n l a b s r = rw (n, l, a, b, s, r)
 
 abbrev log_line : List ℕ → List ℕ → List ℕ
 log_line w f = w ++ 32 ∷ (ascii "can0" ++ 32 ∷ f)
 
-heard-back : (w f : List ℕ) (time : ℕ) → index_of 32 w ≡ length w → index_of 32 f ≡ length f → stamp_of w ≡ Value time
-    → heard_in (log_line w f) ≡ logged_frame f time
+heard-back : (w f : List ℕ) (x : CanFrame) (time : ℕ) → index_of 32 w ≡ length w → index_of 32 f ≡ length f → stamp_of w ≡ Some time → logged_frame f ≡ Ok x
+    → heard_in (log_line w f) ≡ Ok (hands x time)
 unfolding word_count word_at index_of index_after
-heard-back w f time a b s =
+heard-back w f x time a b s r =
     let one : word_count f ≡ 1 = rw append-nil at (words-past f b []) in
-    heard-at (log_line w f) w f time
-    (words-past w a (32 ∷ (ascii "can0" ++ 32 ∷ f)) ∙ rw one)
+    heard-at (log_line w f) w f x time
+    (words-past w a (32 ∷ (ascii "can0" ++ 32 ∷ f)) ∙ rw (words-cons 32 (ascii "can0" ++ 32 ∷ f), words-past (ascii "can0") refl (32 ∷ f), words-cons 32 f, one))
     (ap (λ (l : List ℕ). length l) (word-later w a (ascii "can0" ++ 32 ∷ f) 0))
     (word_first w a (ascii "can0" ++ 32 ∷ f))
     (word-later w a (ascii "can0" ++ 32 ∷ f) 1 ∙ word-later (ascii "can0") refl f 0 ∙ word-only f b)
-    s
+    s r
 
-log-line : (line : List ℕ) → (length line ≡ 0 → ⊥) → get_or line 0 0 ≡ 40 → length line ≤ 4096 → read_line line ≡ heard_in line
-unfolding read_line
-log-line line z g h = rw (ne_eqb _ _ z, g, le-ltb _ _ h)
+log-line : (line : List ℕ) (l : Line) → (length line ≡ 0 → ⊥) → get_or line 0 0 ≡ 40 → length line ≤ 4096 → heard_in line ≡ Ok l → read_line line ≡ l
+unfolding read_line said_in
+log-line line l z g h e = rw (ne_eqb _ _ z, g, le-ltb _ _ h, e)
 
 payload-below : (d : List ℕ) → ((i : ℕ) → get_or d i 0 < 256) → payload_number d < 18446744073709551616
 unfolding payload_number
@@ -246,16 +199,16 @@ payload-below d h = omega (arith, h 0, h 1, h 2, h 3, h 4, h 5, h 6, h 7)
 -- a frame of eight bytes that is printed at a time is read, without its line end, as that frame heard at that time
 pub frame-read-back : (f : CanFrame) (time : ℕ) → f.arbitration_id ≤ 0x1FFF_FFFF → ((i : ℕ) → get_or f.data i 0 < 256) → time < 18446744073709551616
     → read_line (frame_line f time) ≡ hands (can_frame f.arbitration_id (payload_number f.data) true 8 true) time
-unfolding stamp_text frame_text
 frame-read-back f time s b h =
     let id = f.arbitration_id in
     let n = payload_number f.data in
     let e : frame_line f time ≡ log_line (stamp_of_time time) (frame_word id n) = simp append_assoc in
     let short : length (frame_line f time) + 1 ≤ 61 = rw length-append at (frame-short f time).fits in
-    log-line (frame_line f time) (λ z. omega (arith, ap (λ (l : List ℕ). length l) e)) (ap (λ (l : List ℕ). get_or l 0 0) e) (omega arith)
-    ∙ ap heard_in e
-    ∙ heard-back (stamp_of_time time) (frame_word id n) time (stamp-free time) (frame-free id n) (stamp-back time h)
-    ∙ frame_back time id n s (payload-below f.data b)
+    log-line (frame_line f time) (hands (can_frame id n true 8 true) time)
+    (λ z. omega (arith, ap (λ (l : List ℕ). length l) e)) (ap (λ (l : List ℕ). get_or l 0 0) e) (omega arith)
+    (ap heard_in e
+    ∙ heard-back (stamp_of_time time) (frame_word id n) (can_frame id n true 8 true) time (stamp-free time) (frame-free id n) (stamp-back time h)
+    (frame_back id n s (payload-below f.data b)))
 
 -- eight bytes as one number, and apart again
 bytes_back : (a b c d e f g h : ℕ) → a < 256 → b < 256 → c < 256 → d < 256 → e < 256 → f < 256 → g < 256 → h < 256

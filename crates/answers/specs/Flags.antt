@@ -1,5 +1,6 @@
 -- Flags by name: those that are set, in rising bit order and joined by commas, or - where none is. Definitions only.
-use Rattle.std.specs.Prelude.{ℕ, zero, suc, ◌+◌, ◌/◌, ◌%◌, ◌^◌, Bool, cond, List, [], ◌∷◌, ◌++◌, eqb, ltb}
+use Rattle.std.specs.Prelude.{ℕ, zero, suc, ◌+◌, ◌/◌, ◌%◌, ◌^◌, Bool, false, cond, ◌||◌, List, [], ◌∷◌, ◌++◌, map, length, get_or, eqb, ltb}
+use Rattle.std.specs.Borrow.{Bor}
 use Rattle.codec.specs.declared.faults.FaultFlags.{FaultFlags}
 use Rattle.codec.specs.declared.faults.WarningFlags.{WarningFlags}
 use Rattle.motor.specs.declared.feedback.MotorFeedbackState.{MotorFeedbackState}
@@ -41,3 +42,28 @@ fault_flags_text f =
 
 unfoldable pub warning_flags_text : WarningFlags → List ℕ
 warning_flags_text w = flags_text (bit w.overtemperature_warning 1) (ascii "overtemperature_warning") 1
+
+-- the same by a list of flags, each with its name: whether one of the first n is set, and the names of those that are
+abbrev pub Named : Type 0
+Named = Bool × List ℕ
+
+-- as they are lent
+abbrev pub named : List (Bool × Bor (List ℕ)) → List Named
+named flags = map (λ f. (f.0, f.1.now)) flags
+
+abbrev pub nth : List Named → ℕ → Named
+nth flags i = get_or flags i (false, [])
+
+unfoldable pub any_upto : List Named → ℕ → Bool
+any_upto flags zero = false
+any_upto flags (suc i) = any_upto flags i || (nth flags i).0
+
+abbrev pub name_after : Bool → Named → List ℕ
+name_after any flag = cond flag.0 (cond any ((0x2C ∷ []) ++ flag.1) flag.1) []
+
+unfoldable pub names_upto : List Named → ℕ → List ℕ
+names_upto flags zero = []
+names_upto flags (suc i) = names_upto flags i ++ name_after (any_upto flags i) (nth flags i)
+
+abbrev pub names_text : List Named → List ℕ
+names_text flags = cond (any_upto flags (length flags)) (names_upto flags (length flags)) (0x2D ∷ [])

@@ -1,21 +1,16 @@
 -- A look: what a motor was registered with, and all that it holds, line by line. Definitions only.
-use Rattle.std.specs.Prelude.{ℕ, zero, suc, cond, List, [], ◌∷◌, ◌++◌, ltb, get_or}
-use Rattle.codec.specs.declared.error.Checked.{Checked}
-use Rattle.codec.specs.declared.error.Checked.TheVariants as checked
+use Rattle.std.specs.Prelude.{ℕ, zero, suc, min, cond, List, [], ◌∷◌, ◌++◌, get_or, Option, Some, None, Result, Ok, Err}
+use Rattle.codec.specs.declared.error.Refusal.{Refusal}
 use Rattle.codec.specs.declared.faults.FaultReport.{FaultReport}
 use Rattle.codec.specs.declared.model.Model.{Model}
 use Rattle.codec.specs.Models.{model_text}
 use Rattle.codec.specs.Words.{word_of}
 use Rattle.motor.specs.declared.engine.command.Command.{Command}
 use Rattle.motor.specs.declared.engine.operation.Gains.{Gains}
-use Rattle.motor.specs.declared.engine.operation.HeldPing.{HeldPing}
-use Rattle.motor.specs.declared.engine.operation.HeldVersion.{HeldVersion}
+use Rattle.codec.specs.declared.replies.PingReply.{PingReply}
+use Rattle.codec.specs.declared.replies.VersionReply.{VersionReply}
 use Rattle.motor.specs.declared.engine.operation.Operation.{Operation}
-use Rattle.motor.specs.declared.feedback.Latest.{Latest}
-use Rattle.motor.specs.declared.feedback.Latest.TheVariants as latest
 use Rattle.motor.specs.declared.feedback.MotorFeedbackState.{MotorFeedbackState}
-use Rattle.motor.specs.declared.motor.HeldFault.{HeldFault}
-use Rattle.motor.specs.declared.motor.HeldFault.TheVariants as fault
 use Rattle.motor.specs.declared.motor.Seen.{Seen}
 use Rattle.motor.specs.declared.motor.State.{State}
 use Rattle.motor.specs.declared.readings.Entry.{Entry}
@@ -23,7 +18,6 @@ use Rattle.motor.specs.declared.readings.Listing.{Listing}
 use Rattle.motor.specs.Limits.{most_readings}
 use Rattle.motor.specs.Calls.{is_idle}
 use Rattle.motor.specs.Readings.{no_entry}
-use Rattle.station.specs.declared.station.Looked.{Looked}
 use Rattle.text.specs.Ascii.{ascii}
 use Rattle.text.specs.Fields.{fields_text}
 use Rattle.answers.specs.Values.{numbers_text, named_text, line_text, end_of_line, space, value_text}
@@ -32,11 +26,11 @@ use Rattle.answers.specs.Flags.{state_flags_text, fault_flags_text, warning_flag
 use Rattle.answers.specs.Said.{ping_text, version_text, refused_text}
 
 -- motor ID HOST MODEL WAIT
-unfoldable pub motor_text : ℕ → ℕ → Model → ℕ → List ℕ
+abbrev pub motor_text : ℕ → ℕ → Model → ℕ → List ℕ
 motor_text id host model wait = ascii "motor" ++ numbers_text id host (ascii "22") ++ space ++ model_text model ++ line_text [] wait (ascii "D")
 
 -- feedback ID DEVICE MODE_STATE POS VEL TORQUE TEMP
-unfoldable pub told_state_text : MotorFeedbackState → List ℕ
+abbrev pub told_state_text : MotorFeedbackState → List ℕ
 told_state_text s =
     ascii "feedback"
     ++ fields_text
@@ -44,36 +38,38 @@ told_state_text s =
     (ascii "8218888")
 
 -- and FLAGS
-unfoldable pub feedback_text : Latest → List ℕ
-feedback_text latest.Nothing = ascii "feedback none\n"
-feedback_text (latest.State s) = told_state_text s ++ space ++ state_flags_text s ++ end_of_line
+abbrev pub feedback_text : Option MotorFeedbackState → List ℕ
+feedback_text None = ascii "feedback none\n"
+feedback_text (Some s) = told_state_text s ++ space ++ state_flags_text s ++ end_of_line
 
 -- fault FAULT_RAW WARNING_RAW FAULTS WARNINGS
-unfoldable pub report_text : FaultReport → List ℕ
+abbrev pub report_text : FaultReport → List ℕ
 report_text r =
     ascii "fault" ++ numbers_text r.fault_raw r.warning_raw (ascii "88") ++ space ++ fault_flags_text r.faults ++ space ++ warning_flags_text r.warnings ++ end_of_line
 
-unfoldable pub fault_text : HeldFault → List ℕ
-fault_text fault.Nothing = ascii "fault none\n"
-fault_text (fault.Report r) = report_text r
+abbrev pub fault_text : Option FaultReport → List ℕ
+fault_text None = ascii "fault none\n"
+fault_text (Some r) = report_text r
 
 -- ping DEVICE RESPONDER PAYLOAD
-unfoldable pub held_ping_text : HeldPing → List ℕ
-held_ping_text p = cond p.held (ping_text p.reply.device_id p.reply.responder_id p.reply.payload ++ end_of_line) (ascii "ping none\n")
+abbrev pub held_ping_text : Option PingReply → List ℕ
+held_ping_text None = ascii "ping none\n"
+held_ping_text (Some p) = ping_text p.device_id p.responder_id p.payload ++ end_of_line
 
 -- version DEVICE BYTES: the answer that the running get_version has so far
-unfoldable pub held_version_text : HeldVersion → List ℕ
-held_version_text v = cond v.held (version_text v.reply.device_id v.reply.version ++ end_of_line) (ascii "version none\n")
+abbrev pub held_version_text : Option VersionReply → List ℕ
+held_version_text None = ascii "version none\n"
+held_version_text (Some v) = version_text v.device_id v.version ++ end_of_line
 
 -- gains KP KD
-unfoldable pub gains_text : Gains → List ℕ
+abbrev pub gains_text : Gains → List ℕ
 gains_text g = ascii "gains" ++ numbers_text g.kp.bits g.kd.bits (ascii "88") ++ end_of_line
 
 -- running COMMAND due TIME
-unfoldable pub running_text : Operation → Command → List ℕ
+abbrev pub running_text : Operation → Command → List ℕ
 running_text op c = cond (is_idle op.phase) (ascii "running none\n") (ascii "running " ++ command_text c ++ line_text (ascii " due") op.due (ascii "D"))
 
-unfoldable pub state_text : State → List ℕ
+abbrev pub state_text : State → List ℕ
 state_text s =
     motor_text s.motor_id s.feedback_id s.model s.write_wait
     ++ line_text (ascii "clock") s.clock (ascii "D")
@@ -87,26 +83,20 @@ state_text s =
     ++ running_text s.operation s.command
 
 -- reading PARAM KIND BITS
-unfoldable pub reading_text : Entry → List ℕ
+abbrev pub reading_text : Entry → List ℕ
 reading_text e = named_text (ascii "reading") e.id (ascii "4") ++ space ++ value_text e.held.value ++ end_of_line
 
 unfoldable pub readings_upto : List Entry → ℕ → List ℕ
 readings_upto es zero = []
 readings_upto es (suc i) = readings_upto es i ++ reading_text (get_or es i no_entry)
 
-abbrev pub least : ℕ → ℕ → ℕ
-least a b = cond (ltb a b) a b
-
 -- one for each held reading, along the chain
-unfoldable pub readings_text : Listing → List ℕ
-readings_text l = readings_upto l.entries (least l.count most_readings)
+abbrev pub readings_text : Listing → List ℕ
+readings_text l = readings_upto l.entries (min l.count most_readings)
 
-unfoldable pub seen_text : Seen → List ℕ
+abbrev pub seen_text : Seen → List ℕ
 seen_text s = state_text s.state ++ readings_text s.readings ++ ascii "end\n"
 
-unfoldable pub looked_by : Checked → Seen → List ℕ
-looked_by checked.Passed s = seen_text s
-looked_by (checked.Refused r) s = refused_text r
-
-abbrev pub looked_text : Looked → List ℕ
-looked_text l = looked_by l.said l.seen
+unfoldable pub looked_text : Result Seen Refusal → List ℕ
+looked_text (Ok s) = seen_text s
+looked_text (Err r) = refused_text r

@@ -26,7 +26,7 @@ abbrev pub line_text : List ℕ → ℕ → List ℕ → List ℕ
 line_text name n letter = named_text name n letter ++ end_of_line
 
 -- KIND BITS
-unfoldable pub value_text : ParameterValue → List ℕ
+abbrev pub value_text : ParameterValue → List ℕ
 value_text (value.I8 v) = named_text (ascii "I8") (of_z w8 v) (ascii "2")
 value_text (value.U8 v) = named_text (ascii "U8") v (ascii "2")
 value_text (value.U16 v) = named_text (ascii "U16") v (ascii "4")
@@ -37,7 +37,7 @@ value_text (value.F32 w) = named_text (ascii "F32") w.bits (ascii "8")
 abbrev pub signed_byte : ℕ → List ℕ
 signed_byte b = cond (ltb b 128) (decimal_text b) ((0x2D ∷ []) ++ decimal_text (256 - b))
 
-unfoldable pub signed_text : ℤ → List ℕ
+abbrev pub signed_text : ℤ → List ℕ
 signed_text v = signed_byte (of_z w8 v)
 
 -- four bytes as one number, the first highest

@@ -1,4 +1,5 @@
-// What a session is answered (docs/REPLAY.md, the output): text put into a lent buffer. Each function answers the next place.
+// What a session is answered (docs/REPLAY.md, the output): text put into a lent buffer, after what stands there already.
+// No impl of Display: the values are of other crates' types, so each would want a wrapper.
 #![tactic(auto)]
 
 mod flags;

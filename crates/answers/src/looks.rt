@@ -1,241 +1,201 @@
 // A look: what a motor was registered with, and all that it holds.
-ghost use Rattle.std.specs.Prelude.{◌≤◌, ◌≡◌};
-ghost use Rattle.text.specs.Put.{Put};
-ghost use Rattle.motor.specs.Calls.{is_idle};
+#![tactic(auto, using(text::proofs::Putting::puts_joined))]
+
+ghost use Rattle.std.specs.Prelude.{◌≡◌};
+ghost use Rattle.text.specs.Put.{put};
 ghost use Rattle.answers.specs.Looks as spec;
 
 use crate::flags::{put_fault_flags, put_state_flags, put_warning_flags};
-use crate::names::{put_command, put_model};
+use crate::names::command_text;
 use crate::said::{put_ping, put_refused, put_version};
 use crate::values::{put_line, put_named, put_numbers, put_value};
-use codec::error::Checked;
+use codec::error::Refusal;
 use codec::faults::FaultReport;
 use codec::model::Model;
+use codec::replies::{PingReply, VersionReply};
 use codec::word::word_of;
 use motor::engine::command::Command;
-use motor::engine::operation::{Gains, HeldPing, HeldVersion, Operation, Phase};
-use motor::feedback::{Latest, MotorFeedbackState};
+use motor::engine::operation::{Gains, Operation, Phase};
+use motor::feedback::MotorFeedbackState;
 use motor::limits::ENTRIES;
-use motor::motor::{HeldFault, Seen, State};
+use motor::motor::{Seen, State};
 use motor::readings::{Entry, Listing};
-use station::station::Looked;
+use text::Text;
 
 // A look's lines, or refused.
-pub fn put_looked(looked: Looked, out: &mut [u8], at: usize) -> usize
-    ensures { Put out.old at (spec.looked_text looked) out.new result }
+#[tactic(auto, using(text::proofs::Putting::puts_joined), unfolding(crate::specs::Looks::looked_text))]
+pub fn put_looked<const N: usize>(looked: Result<Seen, Refusal>, out: &mut Text<N>)
+    ensures { out.new ≡ put out.old (spec.looked_text looked) }
 {
-    let said = looked.said;
-    match said {
-        Checked::Passed => put_seen(looked.seen, out, at),
-        Checked::Refused(refusal) => put_refused(refusal, out, at),
+    match looked {
+        Ok(seen) => put_seen(seen, out),
+        Err(refusal) => put_refused(refusal, out),
     }
 }
 
-fn put_seen(seen: Seen, out: &mut [u8], at: usize) -> usize
-    ensures { Put out.old at (spec.seen_text seen) out.new result }
+fn put_seen<const N: usize>(seen: Seen, out: &mut Text<N>)
+    ensures { out.new ≡ put out.old (spec.seen_text seen) }
 {
-    let state = seen.state;
-    let readings = seen.readings;
-    let p = put_state(state, out, at);
-    let p = put_readings(readings, out, p);
-    text::put_bytes(out, p, b"end\n")
+    put_state(seen.state, out);
+    put_readings(seen.readings, out);
+    out.put_bytes(b"end\n");
 }
 
 // The lines above the readings.
-fn put_state(s: State, out: &mut [u8], at: usize) -> usize
-    ensures { Put out.old at (spec.state_text s) out.new result }
+fn put_state<const N: usize>(s: State, out: &mut Text<N>)
+    ensures { out.new ≡ put out.old (spec.state_text s) }
 {
-    let model = s.model;
-    let p = put_motor(s.motor_id, s.feedback_id, model, s.write_wait, out, at);
-    let p = put_line(b"clock", s.clock, b"D", out, p);
-    let p = put_line(b"responses", s.responses, b"D", out, p);
-    let feedback = s.feedback;
-    let p = put_line(b"sequence", feedback.sequence, b"D", out, p);
-    let latest = feedback.latest;
-    let p = put_feedback(latest, out, p);
-    let fault = s.fault_report;
-    let p = put_fault(fault, out, p);
-    let ping = s.ping_reply;
-    let p = put_held_ping(ping, out, p);
-    let operation = s.operation;
-    let answer = operation.answer;
-    let p = put_held_version(answer, out, p);
-    let gains = s.gains;
-    let p = put_gains(gains, out, p);
-    let command = s.command;
-    put_running(operation, command, out, p)
+    put_motor(s.motor_id, s.feedback_id, s.model, s.write_wait, out);
+    put_line(b"clock", s.clock, b"D", out);
+    put_line(b"responses", s.responses, b"D", out);
+    put_line(b"sequence", s.feedback.sequence, b"D", out);
+    put_feedback(s.feedback.latest, out);
+    put_fault(s.fault_report, out);
+    put_held_ping(s.ping_reply, out);
+    put_held_version(s.operation.answer, out);
+    put_gains(s.gains, out);
+    put_running(s.operation, s.command, out);
 }
 
 // motor ID HOST MODEL WAIT
-fn put_motor(id: u16, host: u16, model: Model, wait: u64, out: &mut [u8], at: usize) -> usize
-    ensures { Put out.old at (spec.motor_text id host model wait) out.new result }
+fn put_motor<const N: usize>(id: u16, host: u16, model: Model, wait: u64, out: &mut Text<N>)
+    ensures { out.new ≡ put out.old (spec.motor_text id host model wait) }
 {
-    let p = text::put_bytes(out, at, b"motor");
-    let p = put_numbers(id as u64, host as u64, b"22", out, p);
-    let p = text::put_byte(out, p, b' ');
-    let p = put_model(model, out, p);
-    put_line(b"", wait, b"D", out, p)
+    out.put_bytes(b"motor");
+    put_numbers(u64::from(id), u64::from(host), b"22", out);
+    out.put_byte(b' ');
+    out.put_bytes(model.name());
+    put_line(b"", wait, b"D", out);
 }
 
 // feedback ID DEVICE MODE_STATE POS VEL TORQUE TEMP FLAGS
-fn put_feedback(latest: Latest, out: &mut [u8], at: usize) -> usize
-    ensures { Put out.old at (spec.feedback_text latest) out.new result }
+fn put_feedback<const N: usize>(latest: Option<MotorFeedbackState>, out: &mut Text<N>)
+    ensures { out.new ≡ put out.old (spec.feedback_text latest) }
 {
     match latest {
-        Latest::Nothing => text::put_bytes(out, at, b"feedback none\n"),
-        Latest::State(state) => {
-            let p = put_told_state(state, out, at);
-            let p = text::put_byte(out, p, b' ');
-            let p = put_state_flags(state, out, p);
-            text::put_byte(out, p, b'\n')
+        None => out.put_bytes(b"feedback none\n"),
+        Some(state) => {
+            put_told_state(state, out);
+            out.put_byte(b' ');
+            put_state_flags(state, out);
+            out.put_byte(b'\n');
         }
     }
 }
 
-fn put_told_state(s: MotorFeedbackState, out: &mut [u8], at: usize) -> usize
-    ensures { Put out.old at (spec.told_state_text s) out.new result }
+fn put_told_state<const N: usize>(s: MotorFeedbackState, out: &mut Text<N>)
+    ensures { out.new ≡ put out.old (spec.told_state_text s) }
 {
-    let position = word_of(s.position);
-    let velocity = word_of(s.velocity);
-    let torque = word_of(s.torque);
-    let temperature = word_of(s.temperature_c);
-    let p = text::put_bytes(out, at, b"feedback");
-    let v = [
-        s.arbitration_id as u64,
-        s.device_id as u64,
-        s.mode_state as u64,
-        position.bits as u64,
-        velocity.bits as u64,
-        torque.bits as u64,
-        temperature.bits as u64,
+    let numbers = [
+        u64::from(s.arbitration_id),
+        u64::from(s.device_id),
+        u64::from(s.mode_state),
+        u64::from(word_of(s.position).bits),
+        u64::from(word_of(s.velocity).bits),
+        u64::from(word_of(s.torque).bits),
+        u64::from(word_of(s.temperature_c).bits),
         0,
     ];
-    text::put_fields(v, b"8218888", out, p)
+    out.put_bytes(b"feedback");
+    out.put_fields(numbers, b"8218888");
 }
 
 // fault FAULT_RAW WARNING_RAW FAULTS WARNINGS
-fn put_fault(fault: HeldFault, out: &mut [u8], at: usize) -> usize
-    ensures { Put out.old at (spec.fault_text fault) out.new result }
+fn put_fault<const N: usize>(fault: Option<FaultReport>, out: &mut Text<N>)
+    ensures { out.new ≡ put out.old (spec.fault_text fault) }
 {
     match fault {
-        HeldFault::Nothing => text::put_bytes(out, at, b"fault none\n"),
-        HeldFault::Report(report) => put_report(report, out, at),
+        None => out.put_bytes(b"fault none\n"),
+        Some(report) => put_report(report, out),
     }
 }
 
-fn put_report(report: FaultReport, out: &mut [u8], at: usize) -> usize
-    ensures { Put out.old at (spec.report_text report) out.new result }
+fn put_report<const N: usize>(report: FaultReport, out: &mut Text<N>)
+    ensures { out.new ≡ put out.old (spec.report_text report) }
 {
-    let p = text::put_bytes(out, at, b"fault");
-    let p = put_numbers(
-        report.fault_raw as u64,
-        report.warning_raw as u64,
+    out.put_bytes(b"fault");
+    put_numbers(
+        u64::from(report.fault_raw),
+        u64::from(report.warning_raw),
         b"88",
         out,
-        p,
     );
-    let p = text::put_byte(out, p, b' ');
-    let faults = report.faults;
-    let p = put_fault_flags(faults, out, p);
-    let p = text::put_byte(out, p, b' ');
-    let warnings = report.warnings;
-    let p = put_warning_flags(warnings, out, p);
-    text::put_byte(out, p, b'\n')
+    out.put_byte(b' ');
+    put_fault_flags(report.faults, out);
+    out.put_byte(b' ');
+    put_warning_flags(report.warnings, out);
+    out.put_byte(b'\n');
 }
 
 // ping DEVICE RESPONDER PAYLOAD
-fn put_held_ping(ping: HeldPing, out: &mut [u8], at: usize) -> usize
-    ensures { Put out.old at (spec.held_ping_text ping) out.new result }
+fn put_held_ping<const N: usize>(ping: Option<PingReply>, out: &mut Text<N>)
+    ensures { out.new ≡ put out.old (spec.held_ping_text ping) }
 {
-    if ping.held {
-        let reply = ping.reply;
-        let payload = reply.payload;
-        let p = put_ping(reply.device_id, reply.responder_id, payload, out, at);
-        return text::put_byte(out, p, b'\n');
+    match ping {
+        None => out.put_bytes(b"ping none\n"),
+        Some(reply) => {
+            put_ping(reply.device_id, reply.responder_id, reply.payload, out);
+            out.put_byte(b'\n');
+        }
     }
-    text::put_bytes(out, at, b"ping none\n")
 }
 
 // version DEVICE BYTES: the answer that the running get_version has so far
-fn put_held_version(answer: HeldVersion, out: &mut [u8], at: usize) -> usize
-    ensures { Put out.old at (spec.held_version_text answer) out.new result }
+fn put_held_version<const N: usize>(answer: Option<VersionReply>, out: &mut Text<N>)
+    ensures { out.new ≡ put out.old (spec.held_version_text answer) }
 {
-    if answer.held {
-        let reply = answer.reply;
-        let v = reply.version;
-        let p = put_version(reply.device_id, v[0], v[1], v[2], v[3], out, at);
-        return text::put_byte(out, p, b'\n');
+    match answer {
+        None => out.put_bytes(b"version none\n"),
+        Some(reply) => {
+            put_version(reply.device_id, reply.version, out);
+            out.put_byte(b'\n');
+        }
     }
-    text::put_bytes(out, at, b"version none\n")
 }
 
 // gains KP KD
-fn put_gains(gains: Gains, out: &mut [u8], at: usize) -> usize
-    ensures { Put out.old at (spec.gains_text gains) out.new result }
+fn put_gains<const N: usize>(gains: Gains, out: &mut Text<N>)
+    ensures { out.new ≡ put out.old (spec.gains_text gains) }
 {
-    let kp = gains.kp;
-    let kd = gains.kd;
-    let p = text::put_bytes(out, at, b"gains");
-    let p = put_numbers(kp.bits as u64, kd.bits as u64, b"88", out, p);
-    text::put_byte(out, p, b'\n')
+    out.put_bytes(b"gains");
+    put_numbers(
+        u64::from(gains.kp.bits),
+        u64::from(gains.kd.bits),
+        b"88",
+        out,
+    );
+    out.put_byte(b'\n');
 }
 
 // running COMMAND due TIME
-fn put_running(operation: Operation, command: Command, out: &mut [u8], at: usize) -> usize
-    ensures { Put out.old at (spec.running_text operation command) out.new result }
+fn put_running<const N: usize>(operation: Operation, command: Command, out: &mut Text<N>)
+    ensures { out.new ≡ put out.old (spec.running_text operation command) }
 {
-    let phase = operation.phase;
-    if is_idle(phase) {
-        return text::put_bytes(out, at, b"running none\n");
+    if matches!(operation.phase, Phase::Idle) {
+        out.put_bytes(b"running none\n");
+        return;
     }
-    let p = text::put_bytes(out, at, b"running ");
-    let p = put_command(command, out, p);
-    put_line(b" due", operation.due, b"D", out, p)
-}
-
-fn is_idle(phase: Phase) -> bool
-    ensures { result ≡ is_idle phase }
-{
-    match phase {
-        Phase::Idle => true,
-        Phase::Pausing(_) => false,
-        Phase::Waiting(_) => false,
-    }
+    out.put_bytes(b"running ");
+    out.put_bytes(command_text(command));
+    put_line(b" due", operation.due, b"D", out);
 }
 
 // A line for each reading held, along the chain.
-fn put_readings(readings: Listing, out: &mut [u8], at: usize) -> usize
-    ensures { Put out.old at (spec.readings_text readings) out.new result }
+fn put_readings<const N: usize>(readings: Listing, out: &mut Text<N>)
+    ensures { out.new ≡ put out.old (spec.readings_text readings) }
 {
-    let n = least(readings.count as usize, ENTRIES);
-    let entries = readings.entries;
-    let mut p = at;
-    let mut i: usize = 0;
-    while i < n {
-        let entry = entries[i];
-        p = put_reading(entry, out, p);
-        i += 1;
+    let held = usize::from(readings.count).min(ENTRIES);
+    for &entry in &readings.entries[..held] {
+        put_reading(entry, out);
     }
-    p
-}
-
-fn least(a: usize, b: usize) -> usize
-    ensures { (result ≡ spec.least a b) × (result ≤ b) }
-{
-    if a < b {
-        return a;
-    }
-    b
 }
 
 // reading PARAM KIND BITS
-fn put_reading(entry: Entry, out: &mut [u8], at: usize) -> usize
-    ensures { Put out.old at (spec.reading_text entry) out.new result }
+fn put_reading<const N: usize>(entry: Entry, out: &mut Text<N>)
+    ensures { out.new ≡ put out.old (spec.reading_text entry) }
 {
-    let held = entry.held;
-    let value = held.value;
-    let p = put_named(b"reading", entry.id as u64, b"4", out, at);
-    let p = text::put_byte(out, p, b' ');
-    let p = put_value(value, out, p);
-    text::put_byte(out, p, b'\n')
+    put_named(b"reading", u64::from(entry.id), b"4", out);
+    out.put_byte(b' ');
+    put_value(entry.held.value, out);
+    out.put_byte(b'\n');
 }

@@ -1,97 +1,54 @@
 // Names as the Rust has them.
-ghost use Rattle.std.specs.Prelude.{◌≡◌};
-ghost use Rattle.text.specs.Put.{Put};
-ghost use Rattle.codec.specs.Models.{model_text};
-ghost use Rattle.answers.specs.Names.{mode_place, model_place, command_place, mode_text, command_text};
+#![tactic(auto, unfolding(crate::specs::Names::mode_place, text::specs::Words::word_at, text::specs::Search::index_of, text::specs::Search::index_after))]
 
-use codec::model::Model;
+ghost use Rattle.std.specs.Prelude.{◌≡◌};
+ghost use Rattle.answers.specs.Names.{mode_text, command_text};
+
 use codec::registers::ControlMode;
 use motor::engine::command::Command;
-use session::table::{COMMANDS, MODES};
 
 // A mode's name.
-pub(crate) fn put_mode(mode: ControlMode, out: &mut [u8], at: usize) -> usize
-    ensures { Put out.old at (mode_text mode) out.new result }
-{
-    let k = mode_place(mode);
-    let name = text::word(&MODES, k);
-    text::put_bytes(out, at, name)
-}
-
-fn mode_place(mode: ControlMode) -> usize
-    ensures { result ≡ mode_place mode }
+pub(crate) fn mode_text(mode: ControlMode) -> &'static [u8]
+    ensures { result.now ≡ mode_text mode }
 {
     match mode {
-        ControlMode::Mit => 0,
-        ControlMode::Position => 1,
-        ControlMode::Velocity => 2,
-        ControlMode::PositionCsp => 3,
-    }
-}
-
-// A model's name.
-pub(crate) fn put_model(model: Model, out: &mut [u8], at: usize) -> usize
-    ensures { Put out.old at (model_text model) out.new result }
-{
-    let k = model_place(model);
-    let name = text::word(b"rs-00 rs-01 rs-02 rs-03 rs-04 rs-05 rs-05el rs-06", k);
-    text::put_bytes(out, at, name)
-}
-
-fn model_place(model: Model) -> usize
-    ensures { result ≡ model_place model }
-{
-    match model {
-        Model::Rs00 => 0,
-        Model::Rs01 => 1,
-        Model::Rs02 => 2,
-        Model::Rs03 => 3,
-        Model::Rs04 => 4,
-        Model::Rs05 => 5,
-        Model::Rs05el => 6,
-        Model::Rs06 => 7,
+        ControlMode::Mit => b"mit",
+        ControlMode::Position => b"pp",
+        ControlMode::Velocity => b"velocity",
+        ControlMode::PositionCsp => b"csp",
     }
 }
 
 // A command's name, the Rust method's.
-pub(crate) fn put_command(command: Command, out: &mut [u8], at: usize) -> usize
-    ensures { Put out.old at (command_text command) out.new result }
-{
-    let k = command_place(command) as usize;
-    let name = text::word(&COMMANDS, 2 * k);
-    text::put_bytes(out, at, name)
-}
-
-// The row of a command in the table.
-fn command_place(command: Command) -> u8
-    ensures { result ≡ command_place command }
+pub(crate) fn command_text(command: Command) -> &'static [u8]
+    ensures { result.now ≡ command_text command }
 {
     match command {
-        Command::Ping(_) => 0,
-        Command::PingWithHostId(_, _) => 1,
-        Command::SetMode(_) => 2,
-        Command::EnsureControlMode(_, _) => 3,
-        Command::SetZeroPosition => 4,
-        Command::SaveParameters => 5,
-        Command::GetProtocolFlag(_) => 6,
-        Command::SetProtocol(_, _) => 7,
-        Command::SetDeviceId(_) => 8,
-        Command::Enable => 9,
-        Command::Disable => 10,
-        Command::ClearError => 11,
-        Command::SetActiveReport(_) => 12,
-        Command::SendCmdMit(_, _, _, _, _) => 13,
-        Command::SetVelocityTarget(_) => 14,
-        Command::GetControlMode(_) => 15,
-        Command::ControlledStop(_) => 16,
-        Command::WriteParameter(_, _) => 17,
-        Command::SendCmdPosVelCsp(_, _) => 18,
-        Command::SendCmdPosVelPp(_, _, _) => 19,
-        Command::RequestParameter(_) => 20,
-        Command::GetParameter(_, _) => 21,
-        Command::GetParameterWithHostId(_, _, _) => 22,
-        Command::GetParameterF32(_, _) => 23,
-        Command::GetParameterI8(_, _) => 24,
-        Command::GetVersion => 25,
+        Command::Ping(_) => b"ping",
+        Command::PingWithHostId(_, _) => b"ping_with_host_id",
+        Command::SetMode(_) => b"set_mode",
+        Command::EnsureControlMode(_, _) => b"ensure_control_mode",
+        Command::SetZeroPosition => b"set_zero_position",
+        Command::SaveParameters => b"save_parameters",
+        Command::GetProtocolFlag(_) => b"get_protocol_flag",
+        Command::SetProtocol(_, _) => b"set_protocol",
+        Command::SetDeviceId(_) => b"set_device_id",
+        Command::Enable => b"enable",
+        Command::Disable => b"disable",
+        Command::ClearError => b"clear_error",
+        Command::SetActiveReport(_) => b"set_active_report",
+        Command::SendCmdMit(_, _, _, _, _) => b"send_cmd_mit",
+        Command::SetVelocityTarget(_) => b"set_velocity_target",
+        Command::GetControlMode(_) => b"get_control_mode",
+        Command::ControlledStop(_) => b"controlled_stop",
+        Command::WriteParameter(_, _) => b"write_parameter",
+        Command::SendCmdPosVelCsp(_, _) => b"send_cmd_pos_vel_csp",
+        Command::SendCmdPosVelPp(_, _, _) => b"send_cmd_pos_vel_pp",
+        Command::RequestParameter(_) => b"request_parameter",
+        Command::GetParameter(_, _) => b"get_parameter",
+        Command::GetParameterWithHostId(_, _, _) => b"get_parameter_with_host_id",
+        Command::GetParameterF32(_, _) => b"get_parameter_f32",
+        Command::GetParameterI8(_, _) => b"get_parameter_i8",
+        Command::GetVersion => b"get_version",
     }
 }

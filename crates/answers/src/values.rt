@@ -1,70 +1,56 @@
-// Numbers, values and payloads as text.
-ghost use Rattle.std.specs.Prelude.{◌<◌, ◌≡◌};
-ghost use Rattle.text.specs.Put.{Put};
+// Numbers and values as text.
+#![tactic(auto, using(text::proofs::Putting::puts_joined))]
+
+ghost use Rattle.std.specs.Prelude.{◌≡◌};
+ghost use Rattle.text.specs.Put.{put};
 ghost use Rattle.answers.specs.Values as spec;
 
 use codec::protocol::ParameterValue;
 use codec::word::byte_of;
+use text::Text;
 
-// Up to two numbers, each after a space, as the shape says; a line's end.
-pub(crate) fn put_numbers(a: u64, b: u64, shape: &[u8], out: &mut [u8], at: usize) -> usize
-    ensures { Put out.old at (spec.numbers_text a b shape.now) out.new result }
+// Up to two numbers, each after a space, as the shape says.
+pub(crate) fn put_numbers<const N: usize>(a: u64, b: u64, shape: &[u8], out: &mut Text<N>)
+    ensures { out.new ≡ put out.old (spec.numbers_text a b shape.now) }
 {
-    let v = [a, b, 0, 0, 0, 0, 0, 0];
-    text::put_fields(v, shape, out, at)
+    out.put_fields([a, b, 0, 0, 0, 0, 0, 0], shape);
 }
 
 // A word and a number after it, as the letter says.
-pub(crate) fn put_named(name: &[u8], n: u64, letter: &[u8], out: &mut [u8], at: usize) -> usize
-    ensures { Put out.old at (spec.named_text name.now n letter.now) out.new result }
+pub(crate) fn put_named<const N: usize>(name: &[u8], n: u64, letter: &[u8], out: &mut Text<N>)
+    ensures { out.new ≡ put out.old (spec.named_text name.now n letter.now) }
 {
-    let p = text::put_bytes(out, at, name);
-    put_numbers(n, 0, letter, out, p)
+    out.put_bytes(name);
+    put_numbers(n, 0, letter, out);
 }
 
 // The same as a line.
-pub(crate) fn put_line(name: &[u8], n: u64, letter: &[u8], out: &mut [u8], at: usize) -> usize
-    ensures { Put out.old at (spec.line_text name.now n letter.now) out.new result }
+pub(crate) fn put_line<const N: usize>(name: &[u8], n: u64, letter: &[u8], out: &mut Text<N>)
+    ensures { out.new ≡ put out.old (spec.line_text name.now n letter.now) }
 {
-    let p = put_named(name, n, letter, out, at);
-    text::put_byte(out, p, b'\n')
+    put_named(name, n, letter, out);
+    out.put_byte(b'\n');
 }
 
 // KIND BITS
-pub(crate) fn put_value(value: ParameterValue, out: &mut [u8], at: usize) -> usize
-    ensures { Put out.old at (spec.value_text value) out.new result }
+pub(crate) fn put_value<const N: usize>(value: ParameterValue, out: &mut Text<N>)
+    ensures { out.new ≡ put out.old (spec.value_text value) }
 {
     match value {
-        ParameterValue::I8(v) => put_named(b"I8", byte_of(v) as u64, b"2", out, at),
-        ParameterValue::U8(v) => put_named(b"U8", v as u64, b"2", out, at),
-        ParameterValue::U16(v) => put_named(b"U16", v as u64, b"4", out, at),
-        ParameterValue::U32(v) => put_named(b"U32", v as u64, b"8", out, at),
-        ParameterValue::F32(w) => put_named(b"F32", w.bits as u64, b"8", out, at),
+        ParameterValue::I8(v) => put_named(b"I8", u64::from(v.cast_unsigned()), b"2", out),
+        ParameterValue::U8(v) => put_named(b"U8", u64::from(v), b"2", out),
+        ParameterValue::U16(v) => put_named(b"U16", u64::from(v), b"4", out),
+        ParameterValue::U32(v) => put_named(b"U32", u64::from(v), b"8", out),
+        ParameterValue::F32(w) => put_named(b"F32", u64::from(w.bits), b"8", out),
     }
 }
 
 // A signed number in decimal.
-pub(crate) fn put_signed(v: i8, out: &mut [u8], at: usize) -> usize
-    ensures { Put out.old at (spec.signed_text v) out.new result }
+pub(crate) fn put_signed<const N: usize>(v: i8, out: &mut Text<N>)
+    ensures { out.new ≡ put out.old (spec.signed_text v) }
 {
-    let b = byte_of(v) as u64;
-    if b < 128 {
-        return text::put_decimal(out, at, b);
+    if v < 0 {
+        out.put_byte(b'-');
     }
-    let p = text::put_byte(out, at, b'-');
-    text::put_decimal(out, p, 256 - b)
-}
-
-// A payload as one number, its first byte highest.
-pub(crate) fn payload_number(d: [u8; 8]) -> u64
-    ensures { result ≡ spec.payload_number d }
-{
-    four_of(d[0], d[1], d[2], d[3]) * 0x1_0000_0000 + four_of(d[4], d[5], d[6], d[7])
-}
-
-// Four bytes as one number, the first highest.
-pub(crate) fn four_of(a: u8, b: u8, c: u8, d: u8) -> u64
-    ensures { (result ≡ spec.four_of a b c d) × (result < 0x1_0000_0000) }
-{
-    a as u64 * 0x100_0000 + b as u64 * 0x1_0000 + c as u64 * 0x100 + d as u64
+    out.put_decimal(u64::from(v.unsigned_abs()));
 }

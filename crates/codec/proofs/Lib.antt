@@ -7,8 +7,7 @@ pub mod Units
 pub mod Cut
 pub mod Bytes
 pub mod TwosComplement
-pub mod KindTable
-pub mod NameTable
+pub mod ParameterTable
 pub mod RefusalNumbers
 pub mod FlagTable
 pub mod WordTrips

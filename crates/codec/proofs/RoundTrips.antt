@@ -1,4 +1,5 @@
 -- Ids joined and split, values encoded and decoded: each way back. Assumes nothing.
+use Rattle.std.specs.Prelude.{Option, Some, None, Ok, Err}
 use mathlib.Core.Path.{◌≡◌, refl, sym, ap, ◌∙◌}
 use mathlib.Core.Bool.{Bool, true, false, not, cond}
 use mathlib.Core.List.{List}
@@ -8,18 +9,14 @@ use native.Mathlib.Omega.{arith}
 use lib.Dec.{T, eqb, eqb→eq}
 use mir.Facts.{to_z-of_z, of_z-to_z}
 use mir.Syntax.{w8}
-use Rattle.codec.proofs.KindTable.{info_number, named}
 use Rattle.codec.proofs.TwosComplement.{byte-lt}
 use Rattle.codec.specs.declared.protocol.ParameterValue.{ParameterValue}
 use Rattle.codec.specs.declared.protocol.ParameterValue.TheVariants.{I8, U8, U16, U32, F32}
 use Rattle.codec.specs.declared.error.Refusal.TheVariants.{KindDiffers}
-use Rattle.codec.specs.declared.protocol.EncodedValue.TheVariants.{Raw, Refused}
 use Rattle.codec.specs.declared.registers.ParameterDataType.{ParameterDataType}
 use Rattle.codec.specs.declared.registers.ParameterDataType.TheVariants.{Int8, UInt8, UInt16, UInt32, Float32}
-use Rattle.codec.specs.declared.registers.ParameterInfo.{ParameterInfo}
-use Rattle.codec.specs.declared.registers.ParameterInfo.TheVariants.{Listed, Unlisted}
 use Rattle.codec.specs.Ids.{build_ext_id, ext_id_parts, type_of, extra_of, node_of}
-use Rattle.codec.specs.Kinds.{kind_number, coded_as, parameter_info}
+use Rattle.codec.specs.Kinds.{kind_number, parameter_info}
 use Rattle.codec.specs.Values.{le32, width_of, value_as, kind_in, raw_of, InRange, encoded_by, encode_parameter_value, encode_parameter_write, decode_read_parameter_value}
 
 -- ---- ids
@@ -63,9 +60,18 @@ kind-kept UInt32 n = refl
 kind-kept Float32 n = refl
 
 -- kinds of the same number are the same
-kind-by-number : (a b : ParameterDataType) → kind_number a ≡ kind_number b → Listed a ≡ Listed b
-unfolding info_number
-kind-by-number a b e = sym (named (Listed a)) ∙ ap coded_as e ∙ named (Listed b)
+kind-by-number : (a b : ParameterDataType) → kind_number a ≡ kind_number b → Some a ≡ Some b
+kind-by-number a b e = sym (named a) ∙ ap of_number e ∙ named b
+  where
+    of_number : ℕ → Option ParameterDataType
+    of_number n = cond (eqb n 1) (Some Int8) (cond (eqb n 2) (Some UInt8) (cond (eqb n 3) (Some UInt16) (cond (eqb n 4) (Some UInt32) (Some Float32))))
+
+    named : (k : ParameterDataType) → of_number (kind_number k) ≡ Some k
+    named Int8 = refl
+    named UInt8 = refl
+    named UInt16 = refl
+    named UInt32 = refl
+    named Float32 = refl
 
 -- ---- payloads
 
@@ -74,27 +80,27 @@ pub write-raw : (id raw : ℕ) → raw < 2 ^ 32 → le32 (encode_parameter_write
 write-raw id raw h = omega arith
 
 -- a value is accepted for writing only where the parameter is of its kind
-pub accepted : (i : ParameterInfo) (v : ParameterValue) (raw : ℕ) → encoded_by i v ≡ Raw raw → (i ≡ Listed (kind_in v)) × (raw_of v ≡ raw)
-accepted Unlisted v raw h =
+pub accepted : (i : Option ParameterDataType) (v : ParameterValue) (raw : ℕ) → encoded_by i v ≡ Ok raw → (i ≡ Some (kind_in v)) × (raw_of v ≡ raw)
+accepted None v raw h =
     let z : ◌≡◌ {A = ℕ} 0 1 = cc in
     absurd (omega arith)
-accepted (Listed kind) v raw h = go (eqb (kind_number kind) (kind_number (kind_in v))) (eqb→eq (kind_number kind) (kind_number (kind_in v))) h
+accepted (Some kind) v raw h = go (eqb (kind_number kind) (kind_number (kind_in v))) (eqb→eq (kind_number kind) (kind_number (kind_in v))) h
   where
-    go : (b : Bool) → (T b → kind_number kind ≡ kind_number (kind_in v)) → cond (not b) (Refused KindDiffers) (Raw (raw_of v)) ≡ Raw raw → (Listed kind ≡ Listed (kind_in v)) × (raw_of v ≡ raw)
+    go : (b : Bool) → (T b → kind_number kind ≡ kind_number (kind_in v)) → cond (not b) (Err KindDiffers) (Ok (raw_of v)) ≡ Ok raw → (Some kind ≡ Some (kind_in v)) × (raw_of v ≡ raw)
     go true f e = (kind-by-number kind (kind_in v) (f tt), cc)
     go false f e =
         let z : ◌≡◌ {A = ℕ} 0 1 = cc in
         absurd (omega arith)
 
 -- echo: a value accepted for writing, whose four bytes come back in bytes 4 to 7, is decoded with its kind and bits
-pub echoed : (id raw : ℕ) (v : ParameterValue) (payload : List ℕ) → InRange v → encode_parameter_value id v ≡ Raw raw → le32 payload 4 ≡ raw → decode_read_parameter_value id payload ≡ v
+pub echoed : (id raw : ℕ) (v : ParameterValue) (payload : List ℕ) → InRange v → encode_parameter_value id v ≡ Ok raw → le32 payload 4 ≡ raw → decode_read_parameter_value id payload ≡ v
 echoed id raw v payload h a e =
     let k = accepted (parameter_info id) v raw a in
     rw (k.0, e, ← k.1) (value-raw v h)
 
 -- what is decoded for a listed parameter is of its kind, and is encoded as the bytes that the kind uses, the rest zero
-pub written_out : (id : ℕ) (kind : ParameterDataType) (payload : List ℕ) → le32 payload 4 < 2 ^ 32 → parameter_info id ≡ Listed kind
-    → encode_parameter_value id (decode_read_parameter_value id payload) ≡ Raw (le32 payload 4 % 2 ^ (8 * width_of kind))
+pub written_out : (id : ℕ) (kind : ParameterDataType) (payload : List ℕ) → le32 payload 4 < 2 ^ 32 → parameter_info id ≡ Some kind
+    → encode_parameter_value id (decode_read_parameter_value id payload) ≡ Ok (le32 payload 4 % 2 ^ (8 * width_of kind))
 written_out id kind payload h i =
     rw (i, kind-kept kind (le32 payload 4), raw-value kind (le32 payload 4) h, own kind)
   where

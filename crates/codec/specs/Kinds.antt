@@ -1,9 +1,7 @@
 -- Parameter kinds: the 62 ids of `PARAMETER_TABLE`, and the kind of each. Definitions only.
-use Rattle.std.specs.Prelude.{ℕ, Bool, false, cond, ◌||◌, List, [], ◌∷◌, eqb}
+use Rattle.std.specs.Prelude.{ℕ, Bool, false, cond, ◌||◌, List, [], ◌∷◌, eqb, Option, Some, None}
 use Rattle.codec.specs.declared.registers.ParameterDataType.{ParameterDataType}
 use Rattle.codec.specs.declared.registers.ParameterDataType.TheVariants.{Int8, UInt8, UInt16, UInt32, Float32}
-use Rattle.codec.specs.declared.registers.ParameterInfo.{ParameterInfo}
-use Rattle.codec.specs.declared.registers.ParameterInfo.TheVariants.{Listed, Unlisted}
 
 -- whether id is one of ids
 unfoldable pub among : ℕ → List ℕ → Bool
@@ -38,8 +36,8 @@ kind_of id =
     cond (among id int8_ids) Int8
     (cond (among id uint8_ids) UInt8 (cond (among id uint16_ids) UInt16 (cond (among id uint32_ids) UInt32 Float32)))
 
-unfoldable pub parameter_info : ℕ → ParameterInfo
-parameter_info id = cond (among id listed_ids) (Listed (kind_of id)) Unlisted
+unfoldable pub parameter_info : ℕ → Option ParameterDataType
+parameter_info id = cond (among id listed_ids) (Some (kind_of id)) None
 
 -- a number for each kind, by which two kinds are compared
 abbrev pub kind_number : ParameterDataType → ℕ
@@ -48,10 +46,3 @@ kind_number UInt8 = 2
 kind_number UInt16 = 3
 kind_number UInt32 = 4
 kind_number Float32 = 5
-
--- the same number, as the two digits by which the program's table names a kind; any other names none
-unfoldable pub coded_as : ℕ → ParameterInfo
-coded_as code =
-    cond (eqb code 1) (Listed Int8)
-    (cond (eqb code 2) (Listed UInt8)
-    (cond (eqb code 3) (Listed UInt16) (cond (eqb code 4) (Listed UInt32) (cond (eqb code 5) (Listed Float32) Unlisted))))

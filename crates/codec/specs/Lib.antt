@@ -2,6 +2,7 @@ pub mod Refusals
 pub mod Numbers
 pub mod Ids
 pub mod Kinds
+pub mod Table
 pub mod Names
 pub mod ParameterNames
 pub mod Modes

@@ -1,14 +1,11 @@
 -- The eight models: their names and limits. Definitions only.
-use Rattle.std.specs.Prelude.{ℕ, Bool, true, false, cond, ◌&&◌, List, [], ◌∷◌, eqb, ℤ, pos, get_or, Float}
+use Rattle.std.specs.Prelude.{ℕ, Bool, true, false, cond, ◌&&◌, List, [], ◌∷◌, eqb, ℤ, pos, get_or, Float, Option, Some, None, Result, Ok, Err}
 use Rattle.std.specs.Float.{binary32}
 use Rattle.std.specs.Float.Ieee.{of_bits}
+use Rattle.codec.specs.declared.error.Refusal.{Refusal}
 use Rattle.codec.specs.declared.model.Model.{Model}
 use Rattle.codec.specs.declared.model.Model.TheVariants.{Rs00, Rs01, Rs02, Rs03, Rs04, Rs05, Rs05el, Rs06}
 use Rattle.codec.specs.declared.model.Limits.{Limits}
-use Rattle.codec.specs.declared.model.ModelNamed.{ModelNamed}
-use Rattle.codec.specs.declared.model.ModelNamed.TheVariants as named
-use Rattle.codec.specs.declared.model.ModelLimits.{ModelLimits}
-use Rattle.codec.specs.declared.model.ModelLimits.TheVariants as found
 use Rattle.codec.specs.Refusals.{number_of}
 use Rattle.codec.specs.Numbers.{natural_at, refusal_of, answer_of}
 use Rattle.codec.specs.Motion.{whole}
@@ -47,19 +44,19 @@ model_place Rs05 = 5
 model_place Rs05el = 6
 model_place Rs06 = 7
 
-abbrev pub model_named_row : ModelNamed → ℕ × List ℤ
-model_named_row (named.Known m) = (0, pos (model_place m) ∷ [])
-model_named_row named.Unknown = (3, [])
+abbrev pub model_named_row : Option Model → ℕ × List ℤ
+model_named_row (Some m) = (0, pos (model_place m) ∷ [])
+model_named_row None = (3, [])
 
-abbrev pub model_named_of : ℕ → List ℤ → ModelNamed
-model_named_of n values = answer_of (named.Known (get_or all_models (natural_at values 0) Rs00)) (λ r. named.Unknown) n values
+abbrev pub model_named_of : ℕ → List ℤ → Option Model
+model_named_of n values = answer_of (Some (get_or all_models (natural_at values 0) Rs00)) (λ r. None) n values
 
 -- the first of the models that has exactly this name
-unfoldable pub named_among : List ℕ → List Model → ModelNamed
+unfoldable pub named_among : List ℕ → List Model → Option Model
 named_among name [] = model_named_of 3 []
-named_among name (m ∷ models) = cond (same_bytes name (model_text m)) (named.Known m) (named_among name models)
+named_among name (m ∷ models) = cond (same_bytes name (model_text m)) (Some m) (named_among name models)
 
-abbrev pub model_named : List ℕ → ModelNamed
+abbrev pub model_named : List ℕ → Option Model
 model_named name = named_among name all_models
 
 -- ---- limits per model: velocity, torque, kp and kd. The position's is 4π, 41490FDB, for each
@@ -79,14 +76,14 @@ limits_of Rs05el = limits_to (whole 50) (whole 6) (whole 500) (whole 5)
 limits_of Rs06 = limits_to (whole 50) (whole 36) (whole 5000) (whole 100)
 
 -- an unknown model is 3
-abbrev pub limits_by : ModelNamed → ModelLimits
-limits_by (named.Known m) = found.Known (limits_of m)
-limits_by named.Unknown = found.Refused (refusal_of 3 [])
+abbrev pub limits_by : Option Model → Result Limits Refusal
+limits_by (Some m) = Ok (limits_of m)
+limits_by None = Err (refusal_of 3 [])
 
 -- its number; the values of 0 are the limits
-abbrev pub model_limits_number : ModelLimits → ℕ
-model_limits_number (found.Known limits) = 0
-model_limits_number (found.Refused r) = number_of r
+abbrev pub model_limits_number : Result Limits Refusal → ℕ
+model_limits_number (Ok limits) = 0
+model_limits_number (Err r) = number_of r
 
-abbrev pub model_limits : List ℕ → ModelLimits
+abbrev pub model_limits : List ℕ → Result Limits Refusal
 model_limits name = limits_by (model_named name)

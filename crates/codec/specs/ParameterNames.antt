@@ -1,8 +1,7 @@
 -- The names of the 62 parameters of `PARAMETER_TABLE`, each beside its id. Definitions only.
-use Rattle.std.specs.Prelude.{ℕ, cond, List, [], ◌∷◌, eqb, get_or}
+use Rattle.std.specs.Prelude.{ℕ, cond, List, [], ◌∷◌, eqb}
 use Rattle.codec.specs.declared.names.Name.{Name}
 use Rattle.codec.specs.Names.{ascii, named}
-use Rattle.codec.specs.Kinds.{listed_ids}
 
 unfoldable pub parameter_names : List (ℕ × List ℕ)
 parameter_names =
@@ -77,7 +76,3 @@ name_among id (row ∷ rows) = cond (eqb row.0 id) (named row.1) (name_among id 
 
 unfoldable pub parameter_name : ℕ → Name
 parameter_name id = name_among id parameter_names
-
--- the name of the listed parameter at a place of the table; that of no text past the last
-unfoldable pub name_at : ℕ → Name
-name_at place = parameter_name (get_or listed_ids place 0)

@@ -1,7 +1,5 @@
 -- Numbers a caller may get: document 01's number and values for each refusal. Definitions only.
-use Rattle.std.specs.Prelude.{ℕ, List, [], ◌∷◌, ℤ, pos}
-use Rattle.codec.specs.declared.error.LastMode.{LastMode}
-use Rattle.codec.specs.declared.error.LastMode.TheVariants.{Unread, Read}
+use Rattle.std.specs.Prelude.{ℕ, List, [], ◌∷◌, ℤ, pos, Option, Some, None}
 use Rattle.codec.specs.declared.error.Refusal.{Refusal}
 use Rattle.codec.specs.declared.error.Refusal.TheVariants as refusal
 
@@ -9,7 +7,7 @@ use Rattle.codec.specs.declared.error.Refusal.TheVariants as refusal
 pub data Carried : Type 0 where
   nothing : Carried
   status_of : ℕ → ℕ → Carried
-  last_read : LastMode → Carried
+  last_read : Option ℤ → Carried
 
 -- the number of each refusal, and what it carries: 14 its id and status, 18 the last value, the others nothing
 abbrev pub row_of : Refusal → ℕ × Carried
@@ -43,8 +41,8 @@ number_of r = (row_of r).0
 abbrev pub listed : Carried → List ℤ
 listed nothing = []
 listed (status_of id status) = pos id ∷ pos status ∷ []
-listed (last_read Unread) = []
-listed (last_read (Read value)) = value ∷ []
+listed (last_read None) = []
+listed (last_read (Some value)) = value ∷ []
 
 abbrev pub values_of : Refusal → List ℤ
 values_of r = listed (row_of r).1

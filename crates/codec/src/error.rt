@@ -2,13 +2,6 @@
 ghost use Rattle.std.specs.Prelude.{◌≡◌};
 ghost use Rattle.codec.specs.Refusals.{number_of};
 
-// The last run_mode read after a mode write, which 18 gives.
-#[derive(Clone, Copy)]
-pub enum LastMode {
-    Unread,
-    Read(i8),
-}
-
 // A case for each number, in the table's order. 14 and 18 carry values, the others none.
 #[derive(Clone, Copy)]
 pub enum Refusal {
@@ -29,7 +22,7 @@ pub enum Refusal {
     ReadingsFull,
     WindowsGone,
     UnsupportedRunMode,
-    ModeNotReached(LastMode),
+    ModeNotReached(Option<i8>),
     NewDeviceIdZero,
     ReadingOfAnotherKind,
     NothingRunning,
@@ -37,14 +30,8 @@ pub enum Refusal {
     NotVersionReply,
 }
 
-// The answer of a test: passed, or the refusal.
-#[derive(Clone, Copy)]
-pub enum Checked {
-    Passed,
-    Refused(Refusal),
-}
-
 // The number of a refusal.
+// Kept as a function in place of a From: number(refusal) says what u8::from(refusal) doesn't.
 pub fn number(refusal: Refusal) -> u8
     ensures { result ≡ number_of refusal }
 {

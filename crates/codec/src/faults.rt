@@ -2,8 +2,6 @@
 ghost use Rattle.std.specs.Prelude.{◌≡◌};
 ghost use Rattle.codec.specs.Faults.{fault_flags, warning_flags, decode_fault_report};
 
-use crate::bus::join32;
-
 #[derive(Clone, Copy)]
 pub struct FaultFlags {
     pub phase_a_overcurrent: bool,
@@ -64,14 +62,13 @@ fn warning_flags(warning_raw: u32) -> WarningFlags
 pub fn decode_fault_report(payload: [u8; 8]) -> FaultReport
     ensures { result ≡ decode_fault_report payload }
 {
-    let fault_raw = join32(payload[0], payload[1], payload[2], payload[3]);
-    let warning_raw = join32(payload[4], payload[5], payload[6], payload[7]);
-    let faults = fault_flags(fault_raw);
-    let warnings = warning_flags(warning_raw);
+    let [f0, f1, f2, f3, w0, w1, w2, w3] = payload;
+    let fault_raw = u32::from_le_bytes([f0, f1, f2, f3]);
+    let warning_raw = u32::from_le_bytes([w0, w1, w2, w3]);
     FaultReport {
         fault_raw,
         warning_raw,
-        faults,
-        warnings,
+        faults: fault_flags(fault_raw),
+        warnings: warning_flags(warning_raw),
     }
 }

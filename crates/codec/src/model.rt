@@ -1,6 +1,6 @@
 // The eight models and their limits.
-ghost use Rattle.std.specs.Prelude.{◌≡◌, cond};
-ghost use Rattle.codec.specs.Models.{same_bytes, model_named, limits_to, limits_of, model_limits};
+ghost use Rattle.std.specs.Prelude.{◌≡◌};
+ghost use Rattle.codec.specs.Models.{model_text, model_named, limits_to, limits_of, model_limits};
 
 use crate::error::Refusal;
 
@@ -26,58 +26,43 @@ pub struct Limits {
     pub kd: f32,
 }
 
-#[derive(Clone, Copy)]
-pub enum ModelNamed {
-    Known(Model),
-    Unknown,
-}
+impl Model {
+    const ALL: [Model; 8] = [
+        Model::Rs00,
+        Model::Rs01,
+        Model::Rs02,
+        Model::Rs03,
+        Model::Rs04,
+        Model::Rs05,
+        Model::Rs05el,
+        Model::Rs06,
+    ];
 
-#[derive(Clone, Copy)]
-pub enum ModelLimits {
-    Known(Limits),
-    Refused(Refusal),
-}
-
-// Whether two slices hold the same bytes.
-fn same_bytes(a: &[u8], b: &[u8]) -> bool
-    ensures { result ≡ same_bytes a.now b.now }
-{
-    if a.len() != b.len() {
-        return false;
-    }
-    let mut i = 0;
-    while i < a.len() {
-        if a[i] != b[i] {
-            return false;
+    // The name of a model.
+    pub fn name(self) -> &'static [u8]
+        ensures { result.now ≡ model_text self }
+    {
+        match self {
+            Model::Rs00 => b"rs-00",
+            Model::Rs01 => b"rs-01",
+            Model::Rs02 => b"rs-02",
+            Model::Rs03 => b"rs-03",
+            Model::Rs04 => b"rs-04",
+            Model::Rs05 => b"rs-05",
+            Model::Rs05el => b"rs-05el",
+            Model::Rs06 => b"rs-06",
         }
-        i += 1;
     }
-    true
-}
-
-// The model if the name is its own, else what was found among the others.
-fn named_or(name: &[u8], own: &[u8], model: Model, other: ModelNamed) -> ModelNamed
-    ensures { result ≡ cond (same_bytes name.now own.now) (ModelNamed.Known model) other }
-{
-    if same_bytes(name, own) {
-        return ModelNamed::Known(model);
-    }
-    other
 }
 
 // The model of exactly this name. A name is any bytes.
-pub fn model_named(name: &[u8]) -> ModelNamed
+pub fn model_named(name: &[u8]) -> Option<Model>
     ensures { result ≡ model_named name.now }
 {
-    let found = ModelNamed::Unknown;
-    let found = named_or(name, b"rs-06", Model::Rs06, found);
-    let found = named_or(name, b"rs-05el", Model::Rs05el, found);
-    let found = named_or(name, b"rs-05", Model::Rs05, found);
-    let found = named_or(name, b"rs-04", Model::Rs04, found);
-    let found = named_or(name, b"rs-03", Model::Rs03, found);
-    let found = named_or(name, b"rs-02", Model::Rs02, found);
-    let found = named_or(name, b"rs-01", Model::Rs01, found);
-    named_or(name, b"rs-00", Model::Rs00, found)
+    Model::ALL
+        .iter()
+        .find(|model| name == model.name())
+        .copied()
 }
 
 // The limits of a model whose position runs to 4π, as each does.
@@ -110,11 +95,11 @@ pub fn limits_of(model: Model) -> Limits
 }
 
 // The limits of the model of exactly this name; 3 where there is none.
-pub fn model_limits(name: &[u8]) -> ModelLimits
+pub fn model_limits(name: &[u8]) -> Result<Limits, Refusal>
     ensures { result ≡ model_limits name.now }
 {
-    let ModelNamed::Known(model) = model_named(name) else {
-        return ModelLimits::Refused(Refusal::UnknownModel);
+    let Some(model) = model_named(name) else {
+        return Err(Refusal::UnknownModel);
     };
-    ModelLimits::Known(limits_of(model))
+    Ok(limits_of(model))
 }

@@ -14,6 +14,7 @@ pub struct MitCommand {
 }
 
 // v held between lo and hi; a NaN stays.
+#[tactic(auto, unfolding(crate::specs::Motion::clamp))]
 fn clamp(v: f32, lo: f32, hi: f32) -> f32
     ensures { result ≡ clamp v lo hi }
 {
@@ -31,6 +32,7 @@ const RAW_OF_NAN: u16 = 0;
 
 // The fraction cut off, worked out from the bits (sign, exponent, digits): 0 for a NaN and below 1,
 // 65535 from 65536 on.
+// Kept in place of std::num's cast: truncation is to be the program's own (docs/DECISIONS.md).
 fn trunc_u16(x: f32) -> u16
     ensures { result ≡ to_unsigned 16 x }
 {
@@ -71,19 +73,15 @@ pub fn gain_raw(v: f32, m: f32) -> u16
 fn raw_payload(position: u16, velocity: u16, kp: u16, kd: u16) -> [u8; 8]
     ensures { result ≡ raw_payload position velocity kp kd }
 {
-    [
-        (position >> 8) as u8,
-        (position & 0xFF) as u8,
-        (velocity >> 8) as u8,
-        (velocity & 0xFF) as u8,
-        (kp >> 8) as u8,
-        (kp & 0xFF) as u8,
-        (kd >> 8) as u8,
-        (kd & 0xFF) as u8,
-    ]
+    let [p1, p0] = position.to_be_bytes();
+    let [v1, v0] = velocity.to_be_bytes();
+    let [kp1, kp0] = kp.to_be_bytes();
+    let [kd1, kd0] = kd.to_be_bytes();
+    [p1, p0, v1, v0, kp1, kp0, kd1, kd0]
 }
 
 // A motion command of these targets and gains: the torque goes into the extra field.
+// The five stand one by one, as in the Rust's function and in codec_encode_mit_command.
 pub fn encode_mit_command(
     position: f32,
     velocity: f32,

@@ -3,6 +3,7 @@ ghost use Rattle.std.specs.Prelude.{◌≡◌};
 ghost use Rattle.codec.specs.Names.{name_in};
 
 // A name of `length` bytes, and spaces after them.
+// Kept as a row with its length: all 16 bytes cross to C (codec_parameter_name).
 #[derive(Clone, Copy)]
 pub struct Name {
     pub bytes: [u8; 16],
@@ -13,12 +14,9 @@ pub struct Name {
 pub(crate) fn name_in(row: [u8; 16]) -> Name
     ensures { result ≡ name_in row }
 {
-    let mut length: usize = 0;
-    while length < 16 {
-        if row[length] == b' ' {
-            return Name { bytes: row, length };
-        }
-        length += 1;
-    }
+    let length = row
+        .iter()
+        .position(|byte| *byte == b' ')
+        .unwrap_or(row.len());
     Name { bytes: row, length }
 }

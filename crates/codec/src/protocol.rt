@@ -6,10 +6,9 @@ ghost use Rattle.codec.specs.Names.{protocol_name};
 ghost use Rattle.codec.specs.Values.{encode_parameter_read, encode_parameter_write, value_as, decode_read_parameter_value, kind_in, raw_of, encode_parameter_value};
 ghost use Rattle.codec.specs.Replies.{validate_protocol_cmd, encode_set_protocol};
 
-use crate::bus::join32;
-use crate::error::{Checked, Refusal};
+use crate::error::Refusal;
 use crate::names::{Name, name_in};
-use crate::registers::{ParameterDataType, ParameterInfo, kind_number, parameter_info};
+use crate::registers::{ParameterDataType, parameter_info};
 use crate::word::{Word, byte_of, signed_of};
 
 // The type of a frame: the five bits at the top of its id.
@@ -55,16 +54,17 @@ pub const PROTOCOL_CANOPEN: u8 = 1;
 pub const PROTOCOL_MIT: u8 = 2;
 
 // A protocol command is one of the three; any other is 12.
-pub fn validate_protocol_cmd(protocol_cmd: u8) -> Checked
+pub fn validate_protocol_cmd(protocol_cmd: u8) -> Result<(), Refusal>
     ensures { result ≡ validate_protocol_cmd protocol_cmd }
 {
     if protocol_cmd > PROTOCOL_MIT {
-        return Checked::Refused(Refusal::UnknownProtocol);
+        return Err(Refusal::UnknownProtocol);
     }
-    Checked::Passed
+    Ok(())
 }
 
 // The name of a protocol command.
+#[tactic(auto, unfolding(crate::specs::Names::length_in))]
 pub fn protocol_name(protocol_cmd: u8) -> Name
     ensures { result ≡ protocol_name protocol_cmd }
 {
@@ -76,28 +76,12 @@ pub fn protocol_name(protocol_cmd: u8) -> Name
     }
 }
 
-// A payload, or zeros beside the refusal.
-#[derive(Clone, Copy)]
-pub struct SetProtocol {
-    pub said: Checked,
-    pub payload: [u8; 8],
-}
-
-// The payload of a protocol command.
-pub fn encode_set_protocol(protocol_cmd: u8) -> SetProtocol
+// The payload of a protocol command; 12 if it is none.
+pub fn encode_set_protocol(protocol_cmd: u8) -> Result<[u8; 8], Refusal>
     ensures { result ≡ encode_set_protocol protocol_cmd }
 {
-    let said = validate_protocol_cmd(protocol_cmd);
-    let Checked::Passed = said else {
-        return SetProtocol {
-            said,
-            payload: [0; 8],
-        };
-    };
-    SetProtocol {
-        said,
-        payload: [1, 2, 3, 4, 5, 6, protocol_cmd, 0],
-    }
+    validate_protocol_cmd(protocol_cmd)?;
+    Ok([1, 2, 3, 4, 5, 6, protocol_cmd, 0])
 }
 
 // ---- ids
@@ -140,104 +124,82 @@ pub enum ParameterValue {
     F32(Word),
 }
 
+impl ParameterValue {
+    // The value of this kind that four raw bytes stand for.
+    pub fn of_kind(kind: ParameterDataType, raw: u32) -> ParameterValue
+        ensures { result ≡ value_as kind raw }
+    {
+        match kind {
+            ParameterDataType::Int8 => ParameterValue::I8(signed_of((raw & 0xFF) as u8)),
+            ParameterDataType::UInt8 => ParameterValue::U8((raw & 0xFF) as u8),
+            ParameterDataType::UInt16 => ParameterValue::U16((raw & 0xFFFF) as u16),
+            ParameterDataType::UInt32 => ParameterValue::U32(raw),
+            ParameterDataType::Float32 => ParameterValue::F32(Word { bits: raw }),
+        }
+    }
+
+    // The kind of a value.
+    pub fn kind(self) -> ParameterDataType
+        ensures { result ≡ kind_in self }
+    {
+        match self {
+            ParameterValue::I8(_) => ParameterDataType::Int8,
+            ParameterValue::U8(_) => ParameterDataType::UInt8,
+            ParameterValue::U16(_) => ParameterDataType::UInt16,
+            ParameterValue::U32(_) => ParameterDataType::UInt32,
+            ParameterValue::F32(_) => ParameterDataType::Float32,
+        }
+    }
+
+    // The bits of a value as a number; the bytes that its kind doesn't use are zero.
+    pub fn raw(self) -> u32
+        ensures { result ≡ raw_of self }
+    {
+        match self {
+            ParameterValue::I8(v) => byte_of(v) as u32,
+            ParameterValue::U8(v) => v as u32,
+            ParameterValue::U16(v) => v as u32,
+            ParameterValue::U32(v) => v,
+            ParameterValue::F32(w) => w.bits,
+        }
+    }
+}
+
 // The payload that asks for a parameter: its id, low byte first, then zeros.
 pub fn encode_parameter_read(param_id: u16) -> [u8; 8]
     ensures { result ≡ encode_parameter_read param_id }
 {
-    [
-        (param_id & 0xFF) as u8,
-        (param_id >> 8) as u8,
-        0,
-        0,
-        0,
-        0,
-        0,
-        0,
-    ]
+    let [low, high] = param_id.to_le_bytes();
+    [low, high, 0, 0, 0, 0, 0, 0]
 }
 
 // The payload that writes a parameter: its id and the four raw bytes, each low byte first.
 pub fn encode_parameter_write(param_id: u16, raw_value: u32) -> [u8; 8]
     ensures { result ≡ encode_parameter_write param_id raw_value }
 {
-    [
-        (param_id & 0xFF) as u8,
-        (param_id >> 8) as u8,
-        0,
-        0,
-        (raw_value & 0xFF) as u8,
-        ((raw_value >> 8) & 0xFF) as u8,
-        ((raw_value >> 16) & 0xFF) as u8,
-        (raw_value >> 24) as u8,
-    ]
-}
-
-// The value that four raw bytes stand for, by kind.
-fn value_as(kind: ParameterDataType, raw: u32) -> ParameterValue
-    ensures { result ≡ value_as kind raw }
-{
-    match kind {
-        ParameterDataType::Int8 => ParameterValue::I8(signed_of((raw & 0xFF) as u8)),
-        ParameterDataType::UInt8 => ParameterValue::U8((raw & 0xFF) as u8),
-        ParameterDataType::UInt16 => ParameterValue::U16((raw & 0xFFFF) as u16),
-        ParameterDataType::UInt32 => ParameterValue::U32(raw),
-        ParameterDataType::Float32 => ParameterValue::F32(Word { bits: raw }),
-    }
+    let [low, high] = param_id.to_le_bytes();
+    let [b0, b1, b2, b3] = raw_value.to_le_bytes();
+    [low, high, 0, 0, b0, b1, b2, b3]
 }
 
 // The value that a read reply's payload carries for a parameter, by its kind; U32 if it is unlisted.
 pub fn decode_read_parameter_value(param_id: u16, payload: [u8; 8]) -> ParameterValue
     ensures { result ≡ decode_read_parameter_value param_id payload }
 {
-    let raw = join32(payload[4], payload[5], payload[6], payload[7]);
-    let ParameterInfo::Listed(kind) = parameter_info(param_id) else {
-        return ParameterValue::U32(raw);
-    };
-    value_as(kind, raw)
-}
-
-// What encoding a value answers: its four raw bytes as one number, low byte first, or the refusal.
-#[derive(Clone, Copy)]
-pub enum EncodedValue {
-    Raw(u32),
-    Refused(Refusal),
-}
-
-// The kind of a value.
-fn kind_in(value: ParameterValue) -> ParameterDataType
-    ensures { result ≡ kind_in value }
-{
-    match value {
-        ParameterValue::I8(_) => ParameterDataType::Int8,
-        ParameterValue::U8(_) => ParameterDataType::UInt8,
-        ParameterValue::U16(_) => ParameterDataType::UInt16,
-        ParameterValue::U32(_) => ParameterDataType::UInt32,
-        ParameterValue::F32(_) => ParameterDataType::Float32,
-    }
-}
-
-// The bits of a value as a number; the bytes that its kind doesn't use are zero.
-fn raw_of(value: ParameterValue) -> u32
-    ensures { result ≡ raw_of value }
-{
-    match value {
-        ParameterValue::I8(v) => byte_of(v) as u32,
-        ParameterValue::U8(v) => v as u32,
-        ParameterValue::U16(v) => v as u32,
-        ParameterValue::U32(v) => v,
-        ParameterValue::F32(w) => w.bits,
+    let raw = u32::from_le_bytes([payload[4], payload[5], payload[6], payload[7]]);
+    match parameter_info(param_id) {
+        Some(kind) => ParameterValue::of_kind(kind, raw),
+        None => ParameterValue::U32(raw),
     }
 }
 
 // The raw bytes of a value for a parameter: 10 if the id is unlisted, 11 if the kind differs.
-pub fn encode_parameter_value(param_id: u16, value: ParameterValue) -> EncodedValue
+pub fn encode_parameter_value(param_id: u16, value: ParameterValue) -> Result<u32, Refusal>
     ensures { result ≡ encode_parameter_value param_id value }
 {
-    let ParameterInfo::Listed(kind) = parameter_info(param_id) else {
-        return EncodedValue::Refused(Refusal::UnlistedParameter);
-    };
-    if kind_number(kind) != kind_number(kind_in(value)) {
-        return EncodedValue::Refused(Refusal::KindDiffers);
+    let kind = parameter_info(param_id).ok_or(Refusal::UnlistedParameter)?;
+    if kind != value.kind() {
+        return Err(Refusal::KindDiffers);
     }
-    EncodedValue::Raw(raw_of(value))
+    Ok(value.raw())
 }

@@ -1,24 +1,19 @@
 // The parameters: their ids and kinds, and the run modes that parameter 7005 holds.
 ghost use Rattle.std.specs.Prelude.{◌≡◌};
-ghost use Rattle.codec.specs.Kinds.{parameter_info, kind_number, coded_as};
+ghost use Rattle.std.specs.Option.{option_copied};
+ghost use Rattle.codec.specs.Kinds.{parameter_info};
+ghost use Rattle.codec.specs.Table.{row_among, parameter_row};
 ghost use Rattle.codec.specs.Modes.{control_mode_from_raw, control_mode_number};
 
 use crate::error::Refusal;
 
-#[derive(Clone, Copy)]
+#[derive(Clone, Copy, PartialEq, Eq)]
 pub enum ParameterDataType {
     Int8,
     UInt8,
     UInt16,
     UInt32,
     Float32,
-}
-
-// What is known of a parameter id: the Rust's `Option<&ParameterInfo>`, without the name, which `parameter_name` gives.
-#[derive(Clone, Copy)]
-pub enum ParameterInfo {
-    Listed(ParameterDataType),
-    Unlisted,
 }
 
 // The ids that the Rust names, by its names and in its order.
@@ -89,114 +84,139 @@ impl ParameterId {
     pub const PROTOCOL_FLAG: u16 = 0x2022;
 }
 
-// A row for each listed parameter, in the Rust's order: its id, and two digits for its kind, 01
-// Int8, 02 UInt8, 03 UInt16, 04 UInt32, 05 Float32.
-pub(crate) const PARAMETER_TABLE: [u32; 62] = [
-    0x2000_03, 0x2001_03, 0x2002_03, 0x2003_03, 0x2004_04, 0x2005_05, 0x2006_05, 0x2007_05,
-    0x2008_05, 0x2009_02, 0x200A_02, 0x200B_02, 0x200C_04, 0x200E_04, 0x200F_05, 0x2010_02,
-    0x2011_05, 0x2012_05, 0x2013_05, 0x2014_05, 0x2015_05, 0x2016_05, 0x2017_05, 0x2018_05,
-    0x2019_05, 0x201A_05, 0x201B_05, 0x201C_05, 0x201D_05, 0x201E_05, 0x201F_05, 0x2020_05,
-    0x2022_02, 0x7005_01, 0x7006_05, 0x700A_05, 0x700B_05, 0x7010_05, 0x7011_05, 0x7014_05,
-    0x7016_05, 0x7017_05, 0x7018_05, 0x7019_05, 0x701A_05, 0x701B_05, 0x701C_05, 0x701E_05,
-    0x701F_05, 0x7020_05, 0x7021_05, 0x7022_05, 0x7024_05, 0x7025_05, 0x7026_03, 0x7028_04,
-    0x7029_02, 0x702A_02, 0x702B_05, 0x702C_02, 0x702D_02, 0x702E_05,
-];
-
-// A number for each kind, by which two kinds are compared.
-pub(crate) fn kind_number(kind: ParameterDataType) -> u32
-    ensures { result ≡ kind_number kind }
-{
-    match kind {
-        ParameterDataType::Int8 => 1,
-        ParameterDataType::UInt8 => 2,
-        ParameterDataType::UInt16 => 3,
-        ParameterDataType::UInt32 => 4,
-        ParameterDataType::Float32 => 5,
-    }
+// A listed parameter: its id, its name of 16 bytes with spaces last, and its kind.
+// Kept as [u8; 16], not the Rust's &'static str: a constant of structs that hold references has no name in the proofs (tried).
+#[derive(Clone, Copy)]
+pub(crate) struct ParameterInfo {
+    pub(crate) id: u16,
+    pub(crate) name: [u8; 16],
+    pub(crate) data_type: ParameterDataType,
 }
 
-// The kind that the two digits of a row name.
-fn coded_as(code: u32) -> ParameterInfo
-    ensures { result ≡ coded_as code }
+macro_rules! param {
+    ($id:expr, $name:expr, $kind:ident) => {
+        ParameterInfo {
+            id: $id,
+            name: *$name,
+            data_type: ParameterDataType::$kind,
+        }
+    };
+}
+
+// The listed parameters, in the Rust's order.
+pub(crate) static PARAMETER_TABLE: [ParameterInfo; 62] = [
+    param!(0x2000, b"echoPara1       ", UInt16),
+    param!(0x2001, b"echoPara2       ", UInt16),
+    param!(0x2002, b"echoPara3       ", UInt16),
+    param!(0x2003, b"echoPara4       ", UInt16),
+    param!(0x2004, b"echoFreHz       ", UInt32),
+    param!(0x2005, b"mechOffset      ", Float32),
+    param!(0x2006, b"MechPos_init    ", Float32),
+    param!(0x2007, b"limit_torque    ", Float32),
+    param!(0x2008, b"I_FW_MAX        ", Float32),
+    param!(0x2009, b"motor_baud      ", UInt8),
+    param!(0x200A, b"CAN_ID          ", UInt8),
+    param!(0x200B, b"CAN_MASTER      ", UInt8),
+    param!(0x200C, b"CAN_TIMEOUT     ", UInt32),
+    param!(0x200E, b"status3         ", UInt32),
+    param!(0x200F, b"status1         ", Float32),
+    param!(0x2010, b"status6         ", UInt8),
+    param!(0x2011, b"cur_filt_gain   ", Float32),
+    param!(0x2012, b"cur_kp          ", Float32),
+    param!(0x2013, b"cur_ki          ", Float32),
+    param!(0x2014, b"spd_kp          ", Float32),
+    param!(0x2015, b"spd_ki          ", Float32),
+    param!(0x2016, b"loc_kp          ", Float32),
+    param!(0x2017, b"spd_filt_gain   ", Float32),
+    param!(0x2018, b"limit_spd       ", Float32),
+    param!(0x2019, b"limit_cur       ", Float32),
+    param!(0x201A, b"loc_ref_filt_gai", Float32),
+    param!(0x201B, b"limit_loc       ", Float32),
+    param!(0x201C, b"position_offset ", Float32),
+    param!(0x201D, b"chasu_angle_offs", Float32),
+    param!(0x201E, b"spd_step_value  ", Float32),
+    param!(0x201F, b"vol_max         ", Float32),
+    param!(0x2020, b"acc_set         ", Float32),
+    param!(0x2022, b"protocol_1      ", UInt8),
+    param!(0x7005, b"run_mode        ", Int8),
+    param!(0x7006, b"iq_ref          ", Float32),
+    param!(0x700A, b"spd_ref         ", Float32),
+    param!(0x700B, b"limit_torque    ", Float32),
+    param!(0x7010, b"cur_kp          ", Float32),
+    param!(0x7011, b"cur_ki          ", Float32),
+    param!(0x7014, b"cur_filter_gain ", Float32),
+    param!(0x7016, b"loc_ref         ", Float32),
+    param!(0x7017, b"limit_spd       ", Float32),
+    param!(0x7018, b"limit_cur       ", Float32),
+    param!(0x7019, b"mechPos         ", Float32),
+    param!(0x701A, b"iqf             ", Float32),
+    param!(0x701B, b"mechVel         ", Float32),
+    param!(0x701C, b"VBUS            ", Float32),
+    param!(0x701E, b"loc_kp          ", Float32),
+    param!(0x701F, b"spd_kp          ", Float32),
+    param!(0x7020, b"spd_ki          ", Float32),
+    param!(0x7021, b"spd_filter_gain ", Float32),
+    param!(0x7022, b"acc_rad         ", Float32),
+    param!(0x7024, b"vel_max         ", Float32),
+    param!(0x7025, b"acc_set         ", Float32),
+    param!(0x7026, b"EPScan_time     ", UInt16),
+    param!(0x7028, b"canTimeout      ", UInt32),
+    param!(0x7029, b"zero_sta        ", UInt8),
+    param!(0x702A, b"damper          ", UInt8),
+    param!(0x702B, b"add_offset      ", Float32),
+    param!(0x702C, b"alveolous_open  ", UInt8),
+    param!(0x702D, b"iq_test         ", UInt8),
+    param!(0x702E, b"dcc_set         ", Float32),
+];
+
+// The row of this id among some.
+fn row_among(id: u16, rows: &[ParameterInfo]) -> Option<&ParameterInfo>
+    ensures { option_copied result ≡ row_among id rows.now }
 {
-    if code == 1 {
-        return ParameterInfo::Listed(ParameterDataType::Int8);
-    }
-    if code == 2 {
-        return ParameterInfo::Listed(ParameterDataType::UInt8);
-    }
-    if code == 3 {
-        return ParameterInfo::Listed(ParameterDataType::UInt16);
-    }
-    if code == 4 {
-        return ParameterInfo::Listed(ParameterDataType::UInt32);
-    }
-    if code == 5 {
-        return ParameterInfo::Listed(ParameterDataType::Float32);
-    }
-    ParameterInfo::Unlisted
+    rows.iter().find(|row| row.id == id)
+}
+
+// The row of a parameter, if it is listed.
+pub(crate) fn parameter_row(id: u16) -> Option<&'static ParameterInfo>
+    ensures { option_copied result ≡ parameter_row id }
+{
+    row_among(id, &PARAMETER_TABLE)
 }
 
 // The kind of a parameter, if it is listed.
-pub fn parameter_info(id: u16) -> ParameterInfo
+pub fn parameter_info(id: u16) -> Option<ParameterDataType>
     ensures { result ≡ parameter_info id }
 {
-    let wanted = id as u32;
-    let table = PARAMETER_TABLE;
-    let mut i: usize = 0;
-    while i < 62 {
-        let row = table[i];
-        if row >> 8 == wanted {
-            return coded_as(row & 0xFF);
-        }
-        i += 1;
-    }
-    ParameterInfo::Unlisted
+    parameter_row(id).map(|row| row.data_type)
 }
 
 #[derive(Clone, Copy)]
 pub enum ControlMode {
-    Mit,
-    Position,
-    Velocity,
-    PositionCsp,
-}
-
-#[derive(Clone, Copy)]
-pub enum ModeRead {
-    Mode(ControlMode),
-    Refused(Refusal),
+    Mit = 0,
+    Position = 1,
+    Velocity = 2,
+    PositionCsp = 5,
 }
 
 impl ControlMode {
     // The mode that a run_mode value names; 17 for any other value.
-    pub fn from_raw(value: i8) -> ModeRead
+    #[tactic(auto, unfolding(crate::specs::Modes::control_mode_from_raw))]
+    pub fn from_raw(value: i8) -> Result<ControlMode, Refusal>
         ensures { result ≡ control_mode_from_raw value }
     {
-        if value == 0 {
-            return ModeRead::Mode(ControlMode::Mit);
+        match value {
+            0 => Ok(ControlMode::Mit),
+            1 => Ok(ControlMode::Position),
+            2 => Ok(ControlMode::Velocity),
+            5 => Ok(ControlMode::PositionCsp),
+            _ => Err(Refusal::UnsupportedRunMode),
         }
-        if value == 1 {
-            return ModeRead::Mode(ControlMode::Position);
-        }
-        if value == 2 {
-            return ModeRead::Mode(ControlMode::Velocity);
-        }
-        if value == 5 {
-            return ModeRead::Mode(ControlMode::PositionCsp);
-        }
-        ModeRead::Refused(Refusal::UnsupportedRunMode)
     }
 
     // The run_mode value of a mode.
     pub fn number(self) -> i8
         ensures { result ≡ control_mode_number self }
     {
-        match self {
-            ControlMode::Mit => 0,
-            ControlMode::Position => 1,
-            ControlMode::Velocity => 2,
-            ControlMode::PositionCsp => 5,
-        }
+        self as i8
     }
 }

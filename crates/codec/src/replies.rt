@@ -1,8 +1,8 @@
 // The replies to a ping and to a version request.
 ghost use Rattle.std.specs.Prelude.{◌≡◌};
-ghost use Rattle.codec.specs.Replies.{encode_version_request, is_version_reply, not_version_reply, passed_version, decode_version_reply, ping_reply_of, not_ping_reply, passed_ping, decode_ping_reply};
+ghost use Rattle.codec.specs.Replies.{encode_version_request, is_version_reply, decode_version_reply, ping_reply_of, decode_ping_reply};
 
-use crate::error::{Checked, Refusal};
+use crate::error::Refusal;
 use crate::protocol::{CommunicationType, IdParts, ext_id_parts};
 
 #[derive(Clone, Copy)]
@@ -12,24 +12,10 @@ pub struct PingReply {
     pub payload: [u8; 8],
 }
 
-// A ping reply, or one of zeros beside the refusal.
-#[derive(Clone, Copy)]
-pub struct PingAnswer {
-    pub said: Checked,
-    pub reply: PingReply,
-}
-
 #[derive(Clone, Copy)]
 pub struct VersionReply {
     pub device_id: u8,
     pub version: [u8; 4],
-}
-
-// A version reply, or one of zeros beside the refusal.
-#[derive(Clone, Copy)]
-pub struct VersionAnswer {
-    pub said: Checked,
-    pub reply: VersionReply,
 }
 
 pub const VERSION_REQUEST_MARKER: u8 = 0xC4;
@@ -48,78 +34,22 @@ pub fn is_version_reply(arbitration_id: u32, payload: [u8; 8]) -> bool
     ensures { result ≡ is_version_reply arbitration_id payload }
 {
     let parts = ext_id_parts(arbitration_id);
-    if parts.comm_type != CommunicationType::OPERATION_STATUS {
-        return false;
-    }
-    let signature = VERSION_REPLY_SIGNATURE;
-    if payload[0] != signature[0] {
-        return false;
-    }
-    if payload[1] != signature[1] {
-        return false;
-    }
-    payload[2] == signature[2]
-}
-
-// 23, beside a reply of zeros.
-fn not_version_reply() -> VersionAnswer
-    ensures { result ≡ not_version_reply }
-{
-    VersionAnswer {
-        said: Checked::Refused(Refusal::NotVersionReply),
-        reply: VersionReply {
-            device_id: 0,
-            version: [0; 4],
-        },
-    }
-}
-
-// A reply that passed.
-fn passed_version(reply: VersionReply) -> VersionAnswer
-    ensures { result ≡ passed_version reply }
-{
-    VersionAnswer {
-        said: Checked::Passed,
-        reply,
-    }
+    parts.comm_type == CommunicationType::OPERATION_STATUS
+        && payload.starts_with(&VERSION_REPLY_SIGNATURE)
 }
 
 // A version reply decoded; 23 if the frame is none.
-pub fn decode_version_reply(arbitration_id: u32, payload: [u8; 8]) -> VersionAnswer
+pub fn decode_version_reply(arbitration_id: u32, payload: [u8; 8]) -> Result<VersionReply, Refusal>
     ensures { result ≡ decode_version_reply arbitration_id payload }
 {
     if !is_version_reply(arbitration_id, payload) {
-        return not_version_reply();
+        return Err(Refusal::NotVersionReply);
     }
     let parts = ext_id_parts(arbitration_id);
-    passed_version(VersionReply {
+    Ok(VersionReply {
         device_id: (parts.extra_data & 0xFF) as u8,
         version: [payload[3], payload[4], payload[5], payload[6]],
     })
-}
-
-// 22, beside a reply of zeros.
-fn not_ping_reply() -> PingAnswer
-    ensures { result ≡ not_ping_reply }
-{
-    PingAnswer {
-        said: Checked::Refused(Refusal::NotPingReply),
-        reply: PingReply {
-            device_id: 0,
-            responder_id: 0,
-            payload: [0; 8],
-        },
-    }
-}
-
-// A reply that passed.
-fn passed_ping(reply: PingReply) -> PingAnswer
-    ensures { result ≡ passed_ping reply }
-{
-    PingAnswer {
-        said: Checked::Passed,
-        reply,
-    }
 }
 
 // What a ping reply tells, its id split already.
@@ -134,12 +64,12 @@ pub fn ping_reply(parts: IdParts, payload: [u8; 8]) -> PingReply
 }
 
 // A ping reply decoded; 22 if the frame is none.
-pub fn decode_ping_reply(arbitration_id: u32, payload: [u8; 8]) -> PingAnswer
+pub fn decode_ping_reply(arbitration_id: u32, payload: [u8; 8]) -> Result<PingReply, Refusal>
     ensures { result ≡ decode_ping_reply arbitration_id payload }
 {
     let parts = ext_id_parts(arbitration_id);
     if parts.comm_type != CommunicationType::GET_DEVICE_ID {
-        return not_ping_reply();
+        return Err(Refusal::NotPingReply);
     }
-    passed_ping(ping_reply(parts, payload))
+    Ok(ping_reply(parts, payload))
 }

@@ -3,7 +3,6 @@
 ghost use Rattle.std.specs.Prelude.{◌≡◌};
 ghost use Rattle.codec.specs.Status.{status_value, temperature_of, status_flags, decode_status_frame};
 
-use crate::bus::join16;
 use crate::model::Limits;
 
 #[derive(Clone, Copy)]
@@ -61,12 +60,12 @@ fn status_flags(extra_data: u16) -> StatusFlags
 pub fn decode_status_frame(extra_data: u16, payload: [u8; 8], limits: Limits) -> StatusFrame
     ensures { result ≡ decode_status_frame extra_data payload limits }
 {
-    let flags = status_flags(extra_data);
+    let [p1, p0, v1, v0, t1, t0, c1, c0] = payload;
     StatusFrame {
-        flags,
-        position: status_value(join16(payload[0], payload[1]), limits.position),
-        velocity: status_value(join16(payload[2], payload[3]), limits.velocity),
-        torque: status_value(join16(payload[4], payload[5]), limits.torque),
-        temperature_c: temperature(join16(payload[6], payload[7])),
+        flags: status_flags(extra_data),
+        position: status_value(u16::from_be_bytes([p1, p0]), limits.position),
+        velocity: status_value(u16::from_be_bytes([v1, v0]), limits.velocity),
+        torque: status_value(u16::from_be_bytes([t1, t0]), limits.torque),
+        temperature_c: temperature(u16::from_be_bytes([c1, c0])),
     }
 }

@@ -38,18 +38,12 @@ pub fn word_of(x: f32) -> Word
 pub fn byte_of(v: i8) -> u8
     ensures { result ≡ of_z w8 v }
 {
-    if v < 0 {
-        return ((v as i16) + 256) as u8;
-    }
-    v as u8
+    v.cast_unsigned()
 }
 
 // The signed number of a byte, in two's complement.
 pub fn signed_of(b: u8) -> i8
     ensures { result ≡ to_z w8 b }
 {
-    if b < 128 {
-        return b as i8;
-    }
-    ((b as i16) - 256) as i8
+    b.cast_signed()
 }

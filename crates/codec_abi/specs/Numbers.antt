@@ -1,31 +1,27 @@
 -- The codec's answers as numbers. Definitions only.
-use Rattle.std.specs.Prelude.{ℕ, ◌+◌, ◌*◌, ◌^◌, cond, List, [], ◌∷◌, eqb, Float}
+use Rattle.std.specs.Prelude.{ℕ, ◌+◌, ◌*◌, ◌^◌, cond, List, [], ◌∷◌, eqb, Float, Option, Some, None, Result, Ok, Err}
 use Rattle.std.specs.Int.{w8}
 use Rattle.std.proofs.Common.{of_z}
+use Rattle.codec.specs.declared.error.Refusal.{Refusal}
+use Rattle.codec.specs.declared.registers.ControlMode.{ControlMode}
 use Rattle.codec.specs.declared.protocol.IdParts.{IdParts}
 use Rattle.codec.specs.declared.protocol.ParameterValue.{ParameterValue}
-use Rattle.codec.specs.declared.protocol.EncodedValue.{EncodedValue}
-use Rattle.codec.specs.declared.protocol.EncodedValue.TheVariants as encoded
 use Rattle.codec.specs.declared.registers.ParameterDataType.{ParameterDataType}
 use Rattle.codec.specs.declared.registers.ParameterDataType.TheVariants.{Int8, UInt8, UInt16, UInt32, Float32}
-use Rattle.codec.specs.declared.registers.ParameterInfo.{ParameterInfo}
-use Rattle.codec.specs.declared.registers.ParameterInfo.TheVariants.{Listed, Unlisted}
-use Rattle.codec.specs.declared.registers.ModeRead.{ModeRead}
-use Rattle.codec.specs.declared.registers.ModeRead.TheVariants as mode
 use Rattle.codec.specs.declared.faults.FaultFlags.{FaultFlags}
 use Rattle.codec.specs.declared.faults.FaultReport.{FaultReport}
-use Rattle.codec.specs.declared.replies.PingAnswer.{PingAnswer}
-use Rattle.codec.specs.declared.replies.VersionAnswer.{VersionAnswer}
+use Rattle.codec.specs.declared.replies.PingReply.{PingReply}
+use Rattle.codec.specs.declared.replies.VersionReply.{VersionReply}
 use Rattle.codec.specs.declared.word.Word.{Word}
 use Rattle.codec.specs.declared.model.Limits.{Limits}
-use Rattle.codec.specs.declared.model.ModelLimits.{ModelLimits}
-use Rattle.codec.specs.declared.model.ModelLimits.TheVariants as found
 use Rattle.codec.specs.declared.status.StatusFlags.{StatusFlags}
 use Rattle.codec.specs.declared.status.StatusFrame.{StatusFrame}
 use Rattle.codec.specs.Refusals.{number_of}
+use Rattle.codec.specs.Numbers.{said_in, given_or}
 use Rattle.codec.specs.Kinds.{kind_number}
 use Rattle.codec.specs.Modes.{control_mode_number}
 use Rattle.codec.specs.Models.{model_limits_number}
+use Rattle.codec.specs.Replies.{blank_ping, blank_version}
 use Rattle.codec.specs.Values.{value_as, encoded_row, le32}
 use Rattle.codec.specs.Motion.{whole}
 use Rattle.codec_abi.specs.Packing.{refusal_in, flag}
@@ -38,14 +34,14 @@ parts_number p = p.comm_type * 2 ^ 32 + p.extra_data * 2 ^ 16 + p.node_id
 -- ---- parameters
 
 -- the number of a kind, 0 where the id is unlisted
-abbrev pub info_number : ParameterInfo → ℕ
-info_number (Listed kind) = kind_number kind
-info_number Unlisted = 0
+abbrev pub info_number : Option ParameterDataType → ℕ
+info_number (Some kind) = kind_number kind
+info_number None = 0
 
 -- a mode's own number, or 256 + the refusal's
-abbrev pub mode_answer : ModeRead → ℕ
-mode_answer (mode.Mode m) = of_z w8 (control_mode_number m)
-mode_answer (mode.Refused refusal) = 256 + number_of refusal
+abbrev pub mode_answer : Result ControlMode Refusal → ℕ
+mode_answer (Ok m) = of_z w8 (control_mode_number m)
+mode_answer (Err refusal) = 256 + number_of refusal
 
 -- the kind that a number names; any other number than 1 to 4 names Float32
 abbrev pub kind_named : ℕ → ParameterDataType
@@ -54,12 +50,12 @@ kind_named k = cond (eqb k 1) Int8 (cond (eqb k 2) UInt8 (cond (eqb k 3) UInt16 
 abbrev pub typed_value : ℕ → ℕ → ParameterValue
 typed_value k bits = value_as (kind_named k) bits
 
-abbrev pub encoded_refusal : EncodedValue → ℕ
+abbrev pub encoded_refusal : Result ℕ Refusal → ℕ
 encoded_refusal answer = (encoded_row answer).0
 
-abbrev pub encoded_raw : EncodedValue → ℕ
-encoded_raw (encoded.Raw n) = n
-encoded_raw (encoded.Refused refusal) = 0
+abbrev pub encoded_raw : Result ℕ Refusal → ℕ
+encoded_raw (Ok n) = n
+encoded_raw (Err refusal) = 0
 
 -- ---- replies
 
@@ -85,14 +81,15 @@ report_bits report = fault_bits report.faults + flag report.warnings.overtempera
 abbrev pub report_number : FaultReport → ℕ
 report_number report = report.fault_raw + report.warning_raw * 2 ^ 32
 
-abbrev pub ping_number : PingAnswer → ℕ
-ping_number a = refusal_in a.said * 2 ^ 16 + a.reply.device_id * 2 ^ 8 + a.reply.responder_id
+-- beside a refusal a reply is all zeros
+abbrev pub ping_number : Result PingReply Refusal → ℕ
+ping_number a = refusal_in (said_in a) * 2 ^ 16 + (given_or blank_ping a).device_id * 2 ^ 8 + (given_or blank_ping a).responder_id
 
-abbrev pub version_number : VersionAnswer → ℕ
-version_number a = refusal_in a.said * 2 ^ 16 + a.reply.device_id
+abbrev pub version_number : Result VersionReply Refusal → ℕ
+version_number a = refusal_in (said_in a) * 2 ^ 16 + (given_or blank_version a).device_id
 
-abbrev pub version_bytes : VersionAnswer → ℕ
-version_bytes a = le32 a.reply.version 0
+abbrev pub version_bytes : Result VersionReply Refusal → ℕ
+version_bytes a = le32 (given_or blank_version a).version 0
 
 -- ---- values
 
@@ -106,12 +103,12 @@ all_limits p v t kp kd = record { position = p; velocity = v; torque = t; kp = k
 abbrev pub motion_limits : Float → Float → Float → Limits
 motion_limits p v t = all_limits p v t (whole 0) (whole 0)
 
-abbrev pub limits_refusal : ModelLimits → ℕ
+abbrev pub limits_refusal : Result Limits Refusal → ℕ
 limits_refusal answer = model_limits_number answer
 
-abbrev pub limits_list : ModelLimits → List Float
-limits_list (found.Known limits) = limits.position ∷ limits.velocity ∷ limits.torque ∷ limits.kp ∷ limits.kd ∷ []
-limits_list (found.Refused refusal) = whole 0 ∷ whole 0 ∷ whole 0 ∷ whole 0 ∷ whole 0 ∷ []
+abbrev pub limits_list : Result Limits Refusal → List Float
+limits_list (Ok limits) = limits.position ∷ limits.velocity ∷ limits.torque ∷ limits.kp ∷ limits.kd ∷ []
+limits_list (Err refusal) = whole 0 ∷ whole 0 ∷ whole 0 ∷ whole 0 ∷ whole 0 ∷ []
 
 -- the flags of a status frame from bit 0 on
 abbrev pub status_bits : StatusFlags → ℕ

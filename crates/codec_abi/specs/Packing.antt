@@ -1,6 +1,6 @@
 -- Payloads, refusals and flags as numbers. Definitions only.
-use Rattle.std.specs.Prelude.{ℕ, ◌+◌, ◌*◌, ◌/◌, ◌%◌, ◌^◌, Bool, cond, List, [], ◌∷◌}
-use Rattle.codec.specs.declared.error.Checked.{Checked}
+use Rattle.std.specs.Prelude.{ℕ, ◌+◌, ◌*◌, ◌/◌, ◌%◌, ◌^◌, Bool, cond, List, [], ◌∷◌, Result, ⊤}
+use Rattle.codec.specs.declared.error.Refusal.{Refusal}
 use Rattle.codec.specs.Numbers.{checked_row}
 use Rattle.codec.specs.Values.{le32}
 
@@ -21,7 +21,7 @@ abbrev pub second_half : List ℕ → ℕ
 second_half bytes = le32 bytes 8 + le32 bytes 12 * 2 ^ 32
 
 -- a refusal's number, 0 where there is none
-abbrev pub refusal_in : Checked → ℕ
+abbrev pub refusal_in : Result ⊤ Refusal → ℕ
 refusal_in said = (checked_row said).0
 
 -- what a flag adds to a word of flags

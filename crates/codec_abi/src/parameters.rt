@@ -2,17 +2,19 @@
 ghost use Rattle.std.specs.Prelude.{◌≡◌};
 ghost use Rattle.codec.specs.Kinds.{parameter_info, kind_number};
 ghost use Rattle.codec.specs.Modes.{control_mode_from_raw};
-ghost use Rattle.codec.specs.Replies.{validate_protocol_cmd, encode_set_protocol};
+ghost use Rattle.codec.specs.Numbers.{said_in, given_or};
+ghost use Rattle.codec.specs.Replies.{zeros, validate_protocol_cmd, encode_set_protocol};
 ghost use Rattle.codec.specs.Values.{encode_parameter_read, encode_parameter_write, encode_parameter_value, decode_read_parameter_value, kind_in, raw_of};
 ghost use Rattle.codec_abi.specs.Packing.{payload_of, packed, refusal_in};
-ghost use Rattle.codec_abi.specs.Numbers.{info_number, mode_answer, typed_value, encoded_refusal, encoded_raw};
+ghost use Rattle.codec_abi.specs.Numbers.{info_number, mode_answer, kind_named, typed_value, encoded_refusal, encoded_raw};
 
 use crate::packing::{packed, payload_of, refusal_in};
-use codec::protocol::{EncodedValue, ParameterValue};
-use codec::registers::{ControlMode, ModeRead, ParameterDataType, ParameterInfo};
-use codec::word::{Word, byte_of, signed_of};
+use codec::error::number;
+use codec::protocol::ParameterValue;
+use codec::registers::{ControlMode, ParameterDataType};
+use codec::word::byte_of;
 
-// The number of a kind: 1 Int8, 2 UInt8, 3 UInt16, 4 UInt32, 5 Float32.
+// The number of a kind, as C has it: 1 Int8, 2 UInt8, 3 UInt16, 4 UInt32, 5 Float32.
 fn kind_number(kind: ParameterDataType) -> u8
     ensures { result ≡ kind_number kind }
 {
@@ -29,10 +31,7 @@ fn kind_number(kind: ParameterDataType) -> u8
 pub fn codec_parameter_info(id: u16) -> u8
     ensures { result ≡ info_number (parameter_info id) }
 {
-    let ParameterInfo::Listed(kind) = codec::registers::parameter_info(id) else {
-        return 0;
-    };
-    kind_number(kind)
+    codec::registers::parameter_info(id).map_or(0, kind_number)
 }
 
 // The mode that a run_mode value names, as its own number, or 256 + the refusal's number.
@@ -40,8 +39,8 @@ pub fn codec_mode_from_raw(value: i8) -> u16
     ensures { result ≡ mode_answer (control_mode_from_raw value) }
 {
     match ControlMode::from_raw(value) {
-        ModeRead::Mode(mode) => byte_of(mode.number()) as u16,
-        ModeRead::Refused(refusal) => 256 + codec::error::number(refusal) as u16,
+        Ok(mode) => byte_of(mode.number()) as u16,
+        Err(refusal) => 256 + number(refusal) as u16,
     }
 }
 
@@ -54,13 +53,18 @@ pub fn codec_validate_protocol_cmd(cmd: u8) -> u8
 
 // The payload of a protocol command, and its refusal.
 pub fn codec_encode_set_protocol(cmd: u8, payload: &mut u64) -> u8
-    ensures { (result ≡ refusal_in (encode_set_protocol cmd).said) × (payload.new ≡ packed (encode_set_protocol cmd).payload) }
+    ensures { (result ≡ refusal_in (said_in (encode_set_protocol cmd))) × (payload.new ≡ packed (given_or zeros (encode_set_protocol cmd))) }
 {
-    let answer = codec::protocol::encode_set_protocol(cmd);
-    let said = answer.said;
-    let bytes = answer.payload;
-    *payload = packed(bytes);
-    refusal_in(said)
+    match codec::protocol::encode_set_protocol(cmd) {
+        Ok(bytes) => {
+            *payload = packed(bytes);
+            0
+        }
+        Err(refusal) => {
+            *payload = 0;
+            number(refusal)
+        }
+    }
 }
 
 // The payload that asks for a parameter.
@@ -77,23 +81,24 @@ pub fn codec_encode_parameter_write(id: u16, raw: u32) -> u64
     packed(codec::protocol::encode_parameter_write(id, raw))
 }
 
+// The kind that a number names; any other number than 1 to 4 names Float32.
+fn kind_named(number: u8) -> ParameterDataType
+    ensures { result ≡ kind_named number }
+{
+    match number {
+        1 => ParameterDataType::Int8,
+        2 => ParameterDataType::UInt8,
+        3 => ParameterDataType::UInt16,
+        4 => ParameterDataType::UInt32,
+        _ => ParameterDataType::Float32,
+    }
+}
+
 // The value of a kind, by its number, whose bits are the low bits of `bits`.
 fn typed_value(kind: u8, bits: u32) -> ParameterValue
     ensures { result ≡ typed_value kind bits }
 {
-    if kind == 1 {
-        return ParameterValue::I8(signed_of((bits % 256) as u8));
-    }
-    if kind == 2 {
-        return ParameterValue::U8((bits % 256) as u8);
-    }
-    if kind == 3 {
-        return ParameterValue::U16((bits % 65536) as u16);
-    }
-    if kind == 4 {
-        return ParameterValue::U32(bits);
-    }
-    ParameterValue::F32(Word { bits })
+    ParameterValue::of_kind(kind_named(kind), bits)
 }
 
 // The raw bytes of a value for a parameter, byte 0 lowest and 0 at a refusal, and the refusal. A
@@ -102,40 +107,14 @@ pub fn codec_encode_parameter_value(id: u16, kind: u8, bits: u32, raw: &mut u32)
     ensures { (result ≡ encoded_refusal (encode_parameter_value id (typed_value kind bits))) × (raw.new ≡ encoded_raw (encode_parameter_value id (typed_value kind bits))) }
 {
     match codec::protocol::encode_parameter_value(id, typed_value(kind, bits)) {
-        EncodedValue::Raw(n) => {
+        Ok(n) => {
             *raw = n;
             0
         }
-        EncodedValue::Refused(refusal) => {
+        Err(refusal) => {
             *raw = 0;
-            codec::error::number(refusal)
+            number(refusal)
         }
-    }
-}
-
-// The number of a value's kind.
-fn kind_in(value: ParameterValue) -> u8
-    ensures { result ≡ kind_number (kind_in value) }
-{
-    match value {
-        ParameterValue::I8(_) => 1,
-        ParameterValue::U8(_) => 2,
-        ParameterValue::U16(_) => 3,
-        ParameterValue::U32(_) => 4,
-        ParameterValue::F32(_) => 5,
-    }
-}
-
-// A value's bits.
-fn raw_of(value: ParameterValue) -> u32
-    ensures { result ≡ raw_of value }
-{
-    match value {
-        ParameterValue::I8(v) => byte_of(v) as u32,
-        ParameterValue::U8(v) => v as u32,
-        ParameterValue::U16(v) => v as u32,
-        ParameterValue::U32(v) => v,
-        ParameterValue::F32(w) => w.bits,
     }
 }
 
@@ -144,6 +123,6 @@ pub fn codec_decode_read_parameter_value(id: u16, payload: u64, bits: &mut u32) 
     ensures { (result ≡ kind_number (kind_in (decode_read_parameter_value id (payload_of payload)))) × (bits.new ≡ raw_of (decode_read_parameter_value id (payload_of payload))) }
 {
     let value = codec::protocol::decode_read_parameter_value(id, payload_of(payload));
-    *bits = raw_of(value);
-    kind_in(value)
+    *bits = value.raw();
+    kind_number(value.kind())
 }

@@ -1,11 +1,13 @@
 // Fault reports, ping replies and version replies.
 ghost use Rattle.std.specs.Prelude.{◌≡◌, ◌≤◌};
 ghost use Rattle.codec.specs.Faults.{decode_fault_report};
-ghost use Rattle.codec.specs.Replies.{encode_version_request, is_version_reply, decode_version_reply, decode_ping_reply};
+ghost use Rattle.codec.specs.Numbers.{given_or};
+ghost use Rattle.codec.specs.Replies.{encode_version_request, is_version_reply, decode_version_reply, decode_ping_reply, blank_ping};
 ghost use Rattle.codec_abi.specs.Packing.{payload_of, packed};
 ghost use Rattle.codec_abi.specs.Numbers.{fault_bits, report_bits, report_number, ping_number, version_number, version_bytes};
 
-use crate::packing::{flag, joined, packed, payload_of, refusal_in};
+use crate::packing::{flag, packed, payload_of};
+use codec::error::number;
 use codec::faults::FaultFlags;
 
 // The flags of the fault word, in the struct's order from bit 0 on.
@@ -39,16 +41,18 @@ pub fn codec_decode_fault_report(payload: u64, flags: &mut u16) -> u64
 
 // A ping reply: refusal × 2^16 + device × 2^8 + responder, and its payload.
 pub fn codec_decode_ping_reply(id: u32, payload: u64, out: &mut u64) -> u32
-    ensures { (result ≡ ping_number (decode_ping_reply id (payload_of payload))) × (out.new ≡ packed (decode_ping_reply id (payload_of payload)).reply.payload) }
+    ensures { (result ≡ ping_number (decode_ping_reply id (payload_of payload))) × (out.new ≡ packed (given_or blank_ping (decode_ping_reply id (payload_of payload))).payload) }
 {
-    let answer = codec::replies::decode_ping_reply(id, payload_of(payload));
-    let said = answer.said;
-    let reply = answer.reply;
-    let bytes = reply.payload;
-    *out = packed(bytes);
-    (refusal_in(said) as u32) * 0x1_0000
-        + (reply.device_id as u32) * 0x100
-        + (reply.responder_id as u32)
+    match codec::replies::decode_ping_reply(id, payload_of(payload)) {
+        Ok(reply) => {
+            *out = packed(reply.payload);
+            (reply.device_id as u32) * 0x100 + (reply.responder_id as u32)
+        }
+        Err(refusal) => {
+            *out = 0;
+            (number(refusal) as u32) * 0x1_0000
+        }
+    }
 }
 
 // The payload of a version request.
@@ -69,10 +73,14 @@ pub fn codec_is_version_reply(id: u32, payload: u64) -> bool
 pub fn codec_decode_version_reply(id: u32, payload: u64, version: &mut u32) -> u32
     ensures { (result ≡ version_number (decode_version_reply id (payload_of payload))) × (version.new ≡ version_bytes (decode_version_reply id (payload_of payload))) }
 {
-    let answer = codec::replies::decode_version_reply(id, payload_of(payload));
-    let said = answer.said;
-    let reply = answer.reply;
-    let v = reply.version;
-    *version = joined(v[0], v[1], v[2], v[3]);
-    (refusal_in(said) as u32) * 0x1_0000 + (reply.device_id as u32)
+    match codec::replies::decode_version_reply(id, payload_of(payload)) {
+        Ok(reply) => {
+            *version = u32::from_le_bytes(reply.version);
+            reply.device_id as u32
+        }
+        Err(refusal) => {
+            *version = 0;
+            (number(refusal) as u32) * 0x1_0000
+        }
+    }
 }

@@ -8,7 +8,8 @@ ghost use Rattle.codec_abi.specs.Packing.{payload_of, packed};
 ghost use Rattle.codec_abi.specs.Numbers.{word_at, all_limits, motion_limits, limits_refusal, limits_list, status_bits, status_number, status_list};
 
 use crate::packing::{flag, packed, payload_of};
-use codec::model::{Limits, ModelLimits};
+use codec::error::number;
+use codec::model::Limits;
 use codec::status::StatusFlags;
 use codec::word::Word;
 
@@ -61,7 +62,7 @@ pub fn codec_model_limits(name: &[u8], out: &mut [f32; 5]) -> u8
     ensures { (result ≡ limits_refusal (model_limits name.now)) × (out.new ≡ limits_list (model_limits name.now)) }
 {
     match codec::model::model_limits(name) {
-        ModelLimits::Known(limits) => {
+        Ok(limits) => {
             *out = [
                 limits.position,
                 limits.velocity,
@@ -71,9 +72,9 @@ pub fn codec_model_limits(name: &[u8], out: &mut [f32; 5]) -> u8
             ];
             0
         }
-        ModelLimits::Refused(refusal) => {
+        Err(refusal) => {
             *out = [0.0, 0.0, 0.0, 0.0, 0.0];
-            codec::error::number(refusal)
+            number(refusal)
         }
     }
 }

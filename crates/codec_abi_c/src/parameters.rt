@@ -2,7 +2,8 @@
 ghost use Rattle.std.specs.Prelude.{◌≡◌};
 ghost use Rattle.codec.specs.Kinds.{parameter_info, kind_number};
 ghost use Rattle.codec.specs.Modes.{control_mode_from_raw};
-ghost use Rattle.codec.specs.Replies.{validate_protocol_cmd, encode_set_protocol};
+ghost use Rattle.codec.specs.Numbers.{said_in, given_or};
+ghost use Rattle.codec.specs.Replies.{zeros, validate_protocol_cmd, encode_set_protocol};
 ghost use Rattle.codec.specs.Values.{encode_parameter_read, encode_parameter_write, encode_parameter_value, decode_read_parameter_value, kind_in, raw_of};
 ghost use Rattle.codec_abi.specs.Packing.{payload_of, packed, refusal_in};
 ghost use Rattle.codec_abi.specs.Numbers.{info_number, mode_answer, typed_value, encoded_refusal, encoded_raw};
@@ -34,7 +35,7 @@ pub extern "C" fn codec_validate_protocol_cmd(cmd: u8) -> u8
 // The payload of a protocol command, and its refusal.
 #[unsafe(no_mangle)]
 pub extern "C" fn codec_encode_set_protocol(cmd: u8, payload: &mut u64) -> u8
-    ensures { (result ≡ refusal_in (encode_set_protocol cmd).said) × (payload.new ≡ packed (encode_set_protocol cmd).payload) }
+    ensures { (result ≡ refusal_in (said_in (encode_set_protocol cmd))) × (payload.new ≡ packed (given_or zeros (encode_set_protocol cmd))) }
 {
     codec_abi::parameters::codec_encode_set_protocol(cmd, payload)
 }

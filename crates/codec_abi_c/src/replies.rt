@@ -1,7 +1,8 @@
 // Fault reports, ping replies and version replies.
 ghost use Rattle.std.specs.Prelude.{◌≡◌, ◌≤◌};
 ghost use Rattle.codec.specs.Faults.{decode_fault_report};
-ghost use Rattle.codec.specs.Replies.{encode_version_request, is_version_reply, decode_version_reply, decode_ping_reply};
+ghost use Rattle.codec.specs.Numbers.{given_or};
+ghost use Rattle.codec.specs.Replies.{encode_version_request, is_version_reply, decode_version_reply, decode_ping_reply, blank_ping};
 ghost use Rattle.codec_abi.specs.Packing.{payload_of, packed};
 ghost use Rattle.codec_abi.specs.Numbers.{fault_bits, report_bits, report_number, ping_number, version_number, version_bytes};
 
@@ -17,7 +18,7 @@ pub extern "C" fn codec_decode_fault_report(payload: u64, flags: &mut u16) -> u6
 // A ping reply: refusal × 2^16 + device × 2^8 + responder, and its payload.
 #[unsafe(no_mangle)]
 pub extern "C" fn codec_decode_ping_reply(id: u32, payload: u64, out: &mut u64) -> u32
-    ensures { (result ≡ ping_number (decode_ping_reply id (payload_of payload))) × (out.new ≡ packed (decode_ping_reply id (payload_of payload)).reply.payload) }
+    ensures { (result ≡ ping_number (decode_ping_reply id (payload_of payload))) × (out.new ≡ packed (given_or blank_ping (decode_ping_reply id (payload_of payload))).payload) }
 {
     codec_abi::replies::codec_decode_ping_reply(id, payload, out)
 }

@@ -1,13 +1,13 @@
 -- The theorem `bounds`: no operation sends more than 32 frames or needs more than 40 due steps; waits and due times. Assumes nothing.
-use Rattle.std.proofs.Common.{◌≡◌, ℕ, ◌+◌, ◌<◌, ◌≤◌, Bool, true, false, cond, not, ◌&&◌, ◌||◌, eqb, ltb, List, [], ◌∷◌, sym, refl, ap, subst, arith, ltb-false, le-ltb}
+use Rattle.std.proofs.Common.{◌≡◌, ℕ, ◌+◌, ◌<◌, ◌≤◌, Bool, true, false, cond, not, ◌&&◌, ◌||◌, eqb, ltb, List, [], ◌∷◌, sym, refl, ap, subst, arith, ltb-false, le-ltb, Result, Ok, Err, Option}
+use Rattle.std.specs.Prelude.{⊤}
+use Rattle.codec.specs.declared.error.Refusal.{Refusal}
 use Rattle.codec.specs.declared.bus.CanFrame.{CanFrame}
-use Rattle.codec.specs.declared.error.Checked.{Checked}
-use Rattle.codec.specs.declared.error.Checked.TheVariants as checked
 use Rattle.codec.specs.Kinds.{among}
 use Rattle.motor.specs.declared.engine.command.Command.{Command}
 use Rattle.motor.specs.declared.engine.command.Said.{Said}
 use Rattle.motor.specs.declared.engine.command.Said.TheVariants as said
-use Rattle.motor.specs.declared.engine.operation.HeldVersion.{HeldVersion}
+use Rattle.codec.specs.declared.replies.VersionReply.{VersionReply}
 use Rattle.motor.specs.declared.engine.operation.Move.{Move}
 use Rattle.motor.specs.declared.engine.operation.Operation.{Operation}
 use Rattle.motor.specs.declared.engine.operation.Phase.{Phase}
@@ -60,7 +60,7 @@ module _ (f d : ℕ) where
   left-rest (phase.Waiting w) op e = refl
 
   -- get_version's answer has no weight
-  answer-weighs-nothing : (p : Phase) (op : Operation) (v : HeldVersion) → phase_left f d p (with_answer op v) ≡ phase_left f d p op
+  answer-weighs-nothing : (p : Phase) (op : Operation) (v : Option VersionReply) → phase_left f d p (with_answer op v) ≡ phase_left f d p op
   answer-weighs-nothing phase.Idle op v = refl
   answer-weighs-nothing (phase.Pausing k) op v = refl
   answer-weighs-nothing (phase.Waiting w) op v = refl
@@ -75,7 +75,7 @@ module _ (f d : ℕ) where
   Spends old new sent due = op_left f d (op_of new) + cond sent f 0 + cond due d 0 ≤ op_left f d (op_of old)
 
   -- a start while an operation runs is refused by 7 or 8
-  abbrev StartSpends : Lone → Command → ℕ → Checked → Type 0
+  abbrev StartSpends : Lone → Command → ℕ → Result ⊤ Refusal → Type 0
   StartSpends l c now said = Spends l (lone_start_by said l c now).lone (has_frame (lone_start_by said l c now).said) false
 
   start-spends : (l : Lone) (c : Command) (now : ℕ) (p : Phase) → is_idle p ≡ false → StartSpends l c now (start_said l.state.clock p c now)
@@ -89,12 +89,12 @@ module _ (f d : ℕ) where
   step-spends : (l : Lone) (now : ℕ) → is_idle (op_of l).phase ≡ false → Spends l (after_event l (step now)) (sends l (step now)) (is_due l (step now))
   step-spends l now i = go (step_said l.state.clock (op_of l).phase now)
     where
-      go : (said : Checked)
+      go : (said : Result ⊤ Refusal)
           → Spends l (lone_step_by said l now).lone (has_frame (lone_step_by said l now).said) (passes said && not (ltb now (op_of l).due))
-      go checked.Passed =
+      go (Ok tt) =
           let v = step-moves f d (longest_timeout + (op_of l).window + (op_of l).due) now (omega arith) l (omega arith) (omega arith) in
           omega (arith, v.paid, left-rest (op_of l).phase (op_of l) i, either_way (ltb now (op_of l).due))
-      go (checked.Refused r) = omega arith
+      go (Err r) = omega arith
 
   -- so with every event while an operation runs
   spends : (l : Lone) (e : LoneEvent) → is_idle (op_of l).phase ≡ false → Spends l (after_event l e) (sends l e) (is_due l e)
@@ -128,9 +128,9 @@ on-time clock now = go (ltb now clock) refl
     go false e h = ltb-false now clock e
 
 -- nor does a step that passes come before the clock
-step-on-time : (clock : ℕ) (p : Phase) (now : ℕ) → step_said clock p now ≡ checked.Passed → clock ≤ now
+step-on-time : (clock : ℕ) (p : Phase) (now : ℕ) → step_said clock p now ≡ Ok tt → clock ≤ now
 step-on-time clock p now =
-    by-test (λ t x. x ≡ checked.Passed → clock ≤ now) (is_out_of_time clock now)
+    by-test (λ t (x : Result ⊤ Refusal). x ≡ Ok tt → clock ≤ now) (is_out_of_time clock now)
     (λ e h. let z : ◌≡◌ {A = ℕ} 0 1 = cc in absurd (omega arith))
     (λ e h. on-time clock now e)
 
@@ -141,19 +141,19 @@ GivesTimely now a = Given now a × Timely a.lone.state
 start-timely : (l : Lone) (c : Command) (now : ℕ) → Timely l.state → GivesTimely now (lone_start l c now)
 start-timely l c now h = go (start_said l.state.clock (op_of l).phase c now)
   where
-    go : (said : Checked) → GivesTimely now (lone_start_by said l c now)
-    go checked.Passed = let v = started 0 0 now l c in (v.given, (v.window, v.due))
-    go (checked.Refused r) = (tt, h)
+    go : (said : Result ⊤ Refusal) → GivesTimely now (lone_start_by said l c now)
+    go (Ok tt) = let v = started 0 0 now l c in (v.given, (v.window, v.due))
+    go (Err r) = (tt, h)
 
 step-timely : (l : Lone) (now : ℕ) → Timely l.state → GivesTimely now (lone_step l now)
 step-timely l now h = go (step_said l.state.clock (op_of l).phase now) refl
   where
-    go : (said : Checked) → step_said l.state.clock (op_of l).phase now ≡ said → GivesTimely now (lone_step_by said l now)
-    go checked.Passed e =
+    go : (said : Result ⊤ Refusal) → step_said l.state.clock (op_of l).phase now ≡ said → GivesTimely now (lone_step_by said l now)
+    go (Ok tt) e =
         let v =
         step-moves 0 0 longest_timeout now (omega arith) l h.0 (omega (arith, h.1, step-on-time l.state.clock (op_of l).phase now e)) in
         (v.given, (v.window, v.due))
-    go (checked.Refused r) e = (tt, h)
+    go (Err r) e = (tt, h)
 
 -- a frame moves the clock forward only
 frame-timely : (l : Lone) (x : CanFrame) (now : ℕ) → Timely l.state → Timely (hears l x now).lone.state
@@ -180,23 +180,23 @@ timely l (other ∷ es) h = timely l es h
 waits-later : (l : Lone) (now d : ℕ) → (lone_step l now).said ≡ said.Waiting d → now < d
 waits-later l now d = go (step_said l.state.clock (op_of l).phase now)
   where
-    go : (s : Checked) → (lone_step_by s l now).said ≡ said.Waiting d → now < d
-    go checked.Passed e =
+    go : (s : Result ⊤ Refusal) → (lone_step_by s l now).said ≡ said.Waiting d → now < d
+    go (Ok tt) e =
         let most = longest_timeout + (op_of l).window + (op_of l).due in
         let v = step-moves 0 0 most now (omega arith) l (omega arith) (omega arith) in
         (subst (λ (x : Said). GivenWithin most now x (stepped l now).operation.due) e v.given).0
-    go (checked.Refused r) e = (subst (λ (x : Said). GivenWithin 0 now x 0) e tt).0
+    go (Err r) e = (subst (λ (x : Said). GivenWithin 0 now x 0) e tt).0
 
 -- and at or after the due time a pause has begun
 waits-in-pause : (l : Lone) (now d : ℕ) → (op_of l).due ≤ now → (lone_step l now).said ≡ said.Waiting d
     → is_pausing (op_of (lone_step l now).lone).phase ≡ true
 waits-in-pause l now d h = go (step_said l.state.clock (op_of l).phase now)
   where
-    go : (s : Checked) → (lone_step_by s l now).said ≡ said.Waiting d → is_pausing (op_of (lone_step_by s l now).lone).phase ≡ true
-    go checked.Passed e =
+    go : (s : Result ⊤ Refusal) → (lone_step_by s l now).said ≡ said.Waiting d → is_pausing (op_of (lone_step_by s l now).lone).phase ≡ true
+    go (Ok tt) e =
         subst (λ (x : Said). pauses_by x (stepped l now).operation.phase ≡ true) e
         (late-pauses (sight_of l.state) now (op_of l) (le-ltb now (op_of l).due h) (op_of l).phase (wanted (op_of l).phase (λ id. lookup id l.readings)))
-    go (checked.Refused r) e = subst (λ (x : Said). pauses_by x (op_of l).phase ≡ true) e refl
+    go (Err r) e = subst (λ (x : Said). pauses_by x (op_of l).phase ≡ true) e refl
 
 -- ---- the theorem
 
@@ -206,7 +206,7 @@ begun l c now = lone_moved l now c (begun_by (sight_of l.state) now c)
 
 -- what holds of that holds of the start
 accepted : (l : Lone) (c : Command) (now : ℕ) (P : LoneAnswered → Type 0) → Accepted l c now → P (begun l c now) → P (lone_start l c now)
-accepted l c now P h p = subst (λ (said : Checked). P (lone_start_by said l c now)) (sym h) p
+accepted l c now P h p = subst (λ (said : Result ⊤ Refusal). P (lone_start_by said l c now)) (sym h) p
 
 frames-sent : (l : Lone) (es : List LoneEvent) → count sends l es ≤ op_left 1 0 (op_of l)
 frames-sent = count-below sends (λ l. op_left 1 0 (op_of l)) (λ l e i. omega (arith, spends 1 0 l e i))

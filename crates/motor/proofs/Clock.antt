@@ -1,9 +1,8 @@
 -- clock-of: which calls of the lone motor move its clock, and which leave it the same value. Assumes nothing.
-use Rattle.std.proofs.Common.{◌≡◌, ℕ, Bool, true, false, cond, not, ◌&&◌, eqb, [], ◌∷◌, sym, refl, ap, ◌∙◌, true≢false}
+use Rattle.std.proofs.Common.{◌≡◌, ℕ, Bool, true, false, cond, not, ◌&&◌, eqb, [], ◌∷◌, sym, refl, ap, ◌∙◌, true≢false, Result, Ok, Err}
+use Rattle.std.specs.Prelude.{⊤}
 use mathlib.Core.Bool.{or-true}
 use Rattle.codec.specs.declared.bus.CanFrame.{CanFrame}
-use Rattle.codec.specs.declared.error.Checked.{Checked}
-use Rattle.codec.specs.declared.error.Checked.TheVariants as checked
 use Rattle.codec.specs.declared.error.Refusal.{Refusal}
 use Rattle.codec.specs.declared.error.Refusal.TheVariants as refusal
 use Rattle.codec.specs.Kinds.{among}
@@ -58,11 +57,11 @@ module _ (l : Lone) (now : ℕ) where
       p : Phase
       p = l.state.operation.phase
 
-      go : (k : Checked) → start_said clock p c now ≡ k → Stays k → Outcome l now (lone_start_by k l c now)
-      go checked.Passed e h =
+      go : (k : Result ⊤ Refusal) → start_said clock p c now ≡ k → Stays k → Outcome l now (lone_start_by k l c now)
+      go (Ok tt) e h =
           let v = begun_by (sight_of l.state) now c in
           moved c v (begin-ends (sight_of l.state) now c (argued-passed (start_admitted clock p c now) (argued_of c) e)) refl
-      go (checked.Refused r) e h = same r h refl
+      go (Err r) e h = same r h refl
 
   pub step-outcome : Outcome l now (lone_step l now)
   step-outcome = go (step_said clock p now) refl (step_stays clock p now)
@@ -73,12 +72,12 @@ module _ (l : Lone) (now : ℕ) where
       p : Phase
       p = l.state.operation.phase
 
-      go : (k : Checked) → step_said clock p now ≡ k → Stays k → Outcome l now (lone_step_by k l now)
-      go checked.Passed e h =
+      go : (k : Result ⊤ Refusal) → step_said clock p now ≡ k → Stays k → Outcome l now (lone_step_by k l now)
+      go (Ok tt) e h =
           let f = wanted p (λ id. lookup id l.readings) in
           let v = advanced (sight_of l.state) now l.state.operation f p in
           moved l.state.command v (advance-ends (sight_of l.state) now l.state.operation f p (running (is_out_of_time clock now) (is_idle p) e)) refl
-      go (checked.Refused r) e h = same r h refl
+      go (Err r) e h = same r h refl
 
   clock-by : {a : LoneAnswered} → Outcome l now a → a.lone.state.clock ≡ cond (moves a.said) now l.state.clock
   clock-by (same r h e) = rw (e, h)
@@ -103,14 +102,14 @@ module _ (l : Lone) (now : ℕ) where
 -- ---- a frame: 13 and 7 leave the lone motor, 14 and 15 move its clock
 
 module _ (l : Lone) (f : CanFrame) (now : ℕ) where
-  abbrev heard_by : Checked → LoneHeard
+  abbrev heard_by : Result ⊤ Refusal → LoneHeard
   heard_by k =
       record {
         lone = record { state = state_after k l.state f now; readings = readings_after k f (insert (read_id f) (read_stored f) l.readings) l.readings };
         said = k;
       }
 
-  abbrev tested : Bool → Bool → Bool → Bool → Checked
+  abbrev tested : Bool → Bool → Bool → Bool → Result ⊤ Refusal
   tested a b c d =
       first_of
       ((a, refusal.FrameNotAccepted)
@@ -169,11 +168,11 @@ refused-nothing l =
     }
 
 -- refused by the tests of start or step, whatever the number, the whole answer is the refusal beside the same lone motor
-pub start-refused : (l : Lone) (c : Command) (now : ℕ) (r : Refusal) → start_said l.state.clock l.state.operation.phase c now ≡ checked.Refused r
+pub start-refused : (l : Lone) (c : Command) (now : ℕ) (r : Refusal) → start_said l.state.clock l.state.operation.phase c now ≡ Err r
     → lone_start l c now ≡ lone_refused l (said.Refused r)
 start-refused l c now r e = rw e
 
-pub step-refused : (l : Lone) (now : ℕ) (r : Refusal) → step_said l.state.clock l.state.operation.phase now ≡ checked.Refused r
+pub step-refused : (l : Lone) (now : ℕ) (r : Refusal) → step_said l.state.clock l.state.operation.phase now ≡ Err r
     → lone_step l now ≡ lone_refused l (said.Refused r)
 step-refused l now r e = rw e
 

@@ -1,10 +1,9 @@
 -- Each command once: which give a timeout or an argument that is tested, that an operation begins with no refusal once these tests have
 -- passed, and within its frames and due steps. Assumes nothing.
-use Rattle.std.proofs.Common.{◌≡◌, ℕ, ◌≤◌, false, T, eqb, leb, List, [], ◌∷◌, refl, arith, leb→le}
+use Rattle.std.proofs.Common.{◌≡◌, ℕ, ◌≤◌, false, T, eqb, leb, List, [], ◌∷◌, refl, arith, leb→le, Ok}
 use mir.Val.{has_key}
 use types.Run.{OneOf}
 use denote.Enum.Declared.{tag_of}
-use Rattle.codec.specs.declared.error.Checked.TheVariants as checked
 use Rattle.codec.specs.Kinds.{among, listed_ids, int8_ids, uint8_ids, uint16_ids, uint32_ids, kind_of, parameter_info}
 use Rattle.codec.specs.Values.{encode_parameter_value}
 use Rattle.motor.specs.declared.engine.command.Command.{Command}
@@ -36,9 +35,9 @@ Opens node.ClearFault = Unit {0}
 Opens (node.Fail r) = ⊥
 Opens (node.Pause d k) = Unit {0}
 Opens (node.Last r) = is_write r ≡ false
-Opens (node.Write id v k) = encodes (encode_parameter_value id v) ≡ checked.Passed
+Opens (node.Write id v k) = encodes (encode_parameter_value id v) ≡ Ok tt
 Opens (node.Await w window whom) = is_write (request_of w) ≡ false
-Opens (node.Motion p v kp kd t r) = Unit {0}
+Opens (node.Motion t r) = Unit {0}
 Opens (node.Rename new) = Unit {0}
 
 -- at most the limit's frames and 40 due steps, the limit at most 32; paced
@@ -49,8 +48,8 @@ Begins m n = T (leb (node_left 1 0 n) m) × T (leb m most_frames) × T (leb (nod
 abbrev Each : Command → Type 0
 Each c =
     Unless (has_key timed (tag_of the_type c)) (timeout_of c ≡ 0)
-    × Unless (has_key asked (tag_of the_type c)) (argued_of c ≡ checked.Passed)
-    × (argued_of c ≡ checked.Passed → Opens (begins_with c))
+    × Unless (has_key asked (tag_of the_type c)) (argued_of c ≡ Ok tt)
+    × (argued_of c ≡ Ok tt → Opens (begins_with c))
     × Begins (most_frames_of c) (begins_with c)
 
 each : (c : Command) → Each c
@@ -92,27 +91,22 @@ each command.GetVersion = (refl, refl, λ h. refl, (tt, tt, tt, omega arith))
 pub untimed : (c : Command) → OneOf (others the_type timed) (tag_of the_type c) → timeout_of c ≡ 0
 untimed c h = unless the_type timed c (each c).0 h
 
-pub unasked : (c : Command) → OneOf (others the_type asked) (tag_of the_type c) → argued_of c ≡ checked.Passed
+pub unasked : (c : Command) → OneOf (others the_type asked) (tag_of the_type c) → argued_of c ≡ Ok tt
 unasked c h = unless the_type asked c (each c).1 h
 
 -- ---- how an operation begins
 
-pub opens : (c : Command) → argued_of c ≡ checked.Passed → Opens (begins_with c)
+pub opens : (c : Command) → argued_of c ≡ Ok tt → Opens (begins_with c)
 opens c h = (each c).2 h
 
 opens-good : (n : Node) → Opens n → Good n
-opens-good (node.Finish r) o = tt
-opens-good node.Report o = tt
-opens-good node.ClearFault o = tt
 opens-good (node.Fail r) o = absurd o
-opens-good (node.Pause d k) o = tt
 opens-good (node.Last r) o = o
 opens-good (node.Write id v k) o = o
 opens-good (node.Await w window whom) o = o
-opens-good (node.Motion p v kp kd t r) o = tt
-opens-good (node.Rename new) o = tt
+opens-good _ o = tt
 
-pub begins-good : (c : Command) → argued_of c ≡ checked.Passed → Good (begins_with c)
+pub begins-good : (c : Command) → argued_of c ≡ Ok tt → Good (begins_with c)
 begins-good c h = opens-good (begins_with c) (opens c h)
 
 pub frames-within : (c : Command) → node_left 1 0 (begins_with c) ≤ most_frames_of c

@@ -1,9 +1,8 @@
 -- Laws of the lists: ids keep rising, and the lists with record numbers do what the plain ones do. Assumes nothing.
-use Rattle.std.proofs.Common.{◌≡◌, ℕ, zero, suc, ◌<◌, ◌≤◌, Bool, true, false, cond, eqb, ltb, List, [], ◌∷◌, ◌++◌, length, get_or, refl, arith, ltb-false, ltb-true, lt-ltb, eq-eqb, ne_eqb}
+use Rattle.std.proofs.Common.{◌≡◌, ℕ, zero, suc, ◌<◌, ◌≤◌, Bool, true, false, cond, eqb, ltb, List, [], ◌∷◌, ◌++◌, length, get_or, refl, arith, ltb-false, ltb-true, lt-ltb, eq-eqb, ne_eqb, Some, None}
 use borrow.Author.Tests.{eqb-false}
 use Rattle.motor.specs.declared.engine.reading.Stored.{Stored}
 use Rattle.motor.specs.declared.readings.Entry.{Entry}
-use Rattle.motor.specs.declared.engine.reading.Found.TheVariants.{Nothing, Held}
 use Rattle.motor.specs.Readings.{entry, holds, lookup, insert, remove, Above, Rising, Numbered, entries, record_of, placed_in, take_out, no_entry}
 
 pub never : {A : Type 0} → true ≡ false → A
@@ -78,11 +77,11 @@ holds-above id (e ∷ es) a = rw (ne_eqb e.id id (λ p. omega (arith, a.0))) (ho
 pub holds-first : (id : ℕ) (e : Entry) (es : List Entry) → id < e.id → Rising (e ∷ es) → holds id (e ∷ es) ≡ false
 holds-first id e es h r = holds-above id (e ∷ es) (h, above-mono id e.id es (omega arith) r.0)
 
-pub lookup-none : (id : ℕ) (l : List Entry) → holds id l ≡ false → lookup id l ≡ Nothing
+pub lookup-none : (id : ℕ) (l : List Entry) → holds id l ≡ false → lookup id l ≡ None
 lookup-none id [] h = refl
 lookup-none id (e ∷ es) h = go (eqb e.id id) (lookup-none id es) h
   where
-    go : (b : Bool) → (holds id es ≡ false → lookup id es ≡ Nothing) → cond b true (holds id es) ≡ false → cond b (Held e.held) (lookup id es) ≡ Nothing
+    go : (b : Bool) → (holds id es ≡ false → lookup id es ≡ None) → cond b true (holds id es) ≡ false → cond b (Some e.held) (lookup id es) ≡ None
     go true f i = never i
     go false f i = f i
 

@@ -1,24 +1,22 @@
 -- Feedback is finite: of bytes, each operation of a status value stays below a bound that an `f32` holds. Assumes nothing.
-use Rattle.std.proofs.Common.{◌≡◌, ℕ, ◌+◌, ◌-◌, ◌*◌, ◌^◌, ◌<◌, ◌≤◌, Bool, true, false, cond, not, ◌&&◌, ◌||◌, T, eqb, ltb, List, [], ◌∷◌, get_or, pos, sym, refl, subst, le_trans, le_of_eq, lt_of_le_of_lt, mul-le-mul_right, mul-le-mul, mul-le-mul_left, mul-pos, mul_right_comm, le_of_mul-le-mul_right, arith, lit<, lit≤, pow_pos}
+use Rattle.std.proofs.Common.{◌≡◌, ℕ, ◌+◌, ◌-◌, ◌*◌, ◌^◌, ◌<◌, ◌≤◌, Bool, true, false, cond, not, ◌&&◌, ◌||◌, T, eqb, ltb, List, [], ◌∷◌, get_or, pos, sym, refl, subst, le_trans, le_of_eq, lt_of_le_of_lt, mul-le-mul_right, mul-le-mul, mul-le-mul_left, mul-pos, mul_right_comm, le_of_mul-le-mul_right, arith, lit<, lit≤, pow_pos, Option, Some, None, Result, Ok, Err}
+use Rattle.std.specs.Prelude.{⊤}
 use mathlib.Core.Bool.{beq}
 use native.Mathlib.Nat.{mul-mul-mul_comm}
 use lib.Ieee.{Float, nan, inf, fin, binary32, up, down, size, round, sum, add, sub, neg, mul, div, of_int, of_bits}
 use lib.Ieee.Exact.{HasValue}
 use lib.Ieee.Fits.{down_pos}
 use lib.Ieee.Scale.{finite}
+use Rattle.codec.specs.declared.error.Refusal.{Refusal}
 use Rattle.codec.specs.declared.model.Model.{Model}
 use Rattle.codec.specs.declared.model.Model.TheVariants.{Rs00, Rs01, Rs02, Rs03, Rs04, Rs05, Rs05el, Rs06}
 use Rattle.codec.specs.Models.{limits_of}
 use Rattle.codec.specs.Motion.{whole}
 use Rattle.codec.specs.Status.{be16, status_value, tenth, temperature_of}
 use Rattle.codec.specs.declared.bus.CanFrame.{CanFrame}
-use Rattle.codec.specs.declared.error.Checked.{Checked}
-use Rattle.codec.specs.declared.error.Checked.TheVariants.{Passed, Refused}
 use Rattle.codec.specs.Kinds.{among}
 use Rattle.codec.specs.Refusals.{number_of}
 use Rattle.motor.specs.declared.feedback.MotorFeedbackState.{MotorFeedbackState}
-use Rattle.motor.specs.declared.feedback.Latest.{Latest}
-use Rattle.motor.specs.declared.feedback.Latest.TheVariants as latest
 use Rattle.motor.specs.declared.motor.State.{State}
 use Rattle.motor.specs.declared.motor.Motor.{Motor}
 use Rattle.motor.specs.Receive.{parts_of, frame_type, counted_at, feedback_in, update, feedback_after, told_by, answer_taken, state_after, process_feedback_frame}
@@ -169,20 +167,20 @@ told-finite model f h =
       temperature = temperature-finite (be16 f.data 6) (raw-le f.data h 6);
     }
 
-abbrev pub FiniteIn : Latest → Type 0
-FiniteIn latest.Nothing = Unit {0}
-FiniteIn (latest.State s) = Finite s
+abbrev pub FiniteIn : Option MotorFeedbackState → Type 0
+FiniteIn None = Unit {0}
+FiniteIn (Some s) = Finite s
 
 -- feedback that is finite stays so, whatever the frame and its answer
 module _ (f : CanFrame) (now : ℕ) (h : Bytes f.data) where
-  state-finite : (said : Checked) (s : State) → FiniteIn s.feedback.latest → FiniteIn (state_after said s f now).feedback.latest
+  state-finite : (said : Result ⊤ Refusal) (s : State) → FiniteIn s.feedback.latest → FiniteIn (state_after said s f now).feedback.latest
   unfolding state_after answer_taken told_by counted_at feedback_after
-  state-finite Passed s k = either-rule (λ t. FiniteIn t.feedback.latest) (counted_at s now) f k (go (eqb (frame_type f) 2 || eqb (frame_type f) 24))
+  state-finite (Ok tt) s k = either-rule (λ t. FiniteIn t.feedback.latest) (counted_at s now) f k (go (eqb (frame_type f) 2 || eqb (frame_type f) 24))
     where
       go : (b : Bool) → FiniteIn (cond b (update s.feedback (feedback_in s.model (parts_of f) f)) s.feedback).latest
       go true = told-finite s.model f h
       go false = k
-  state-finite (Refused r) s k = go (among (number_of r) (14 ∷ 15 ∷ []))
+  state-finite (Err r) s k = go (among (number_of r) (14 ∷ 15 ∷ []))
     where
       go : (b : Bool) → FiniteIn (cond b (counted_at s now) s).feedback.latest
       go true = k

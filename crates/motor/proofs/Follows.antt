@@ -1,18 +1,13 @@
 -- What follows each end of a wait is within what was left there, and paced. Assumes nothing.
-use Rattle.std.proofs.Common.{ℕ, zero, suc, ◌+◌, ◌*◌, ◌≤◌, ℤ, arith}
+use Rattle.std.proofs.Common.{ℕ, zero, suc, ◌+◌, ◌*◌, ◌≤◌, ℤ, arith, Option, Some, None, Result, Ok, Err}
+use Rattle.codec.specs.declared.error.Refusal.{Refusal}
 use Rattle.codec.specs.declared.protocol.ParameterValue.{ParameterValue}
 use Rattle.codec.specs.declared.protocol.ParameterValue.TheVariants as value
 use Rattle.codec.specs.declared.registers.ControlMode.{ControlMode}
 use Rattle.codec.specs.declared.registers.ControlMode.TheVariants as mode
-use Rattle.codec.specs.declared.registers.ModeRead.{ModeRead}
-use Rattle.codec.specs.declared.registers.ModeRead.TheVariants as read
 use Rattle.codec.specs.declared.word.Word.{Word}
 use Rattle.codec.specs.Modes.{control_mode_from_raw}
 use Rattle.motor.specs.declared.engine.operation.Sight.{Sight}
-use Rattle.motor.specs.declared.engine.kinds.FloatIn.{FloatIn}
-use Rattle.motor.specs.declared.engine.kinds.FloatIn.TheVariants as float
-use Rattle.motor.specs.declared.engine.kinds.SignedIn.{SignedIn}
-use Rattle.motor.specs.declared.engine.kinds.SignedIn.TheVariants as signed
 use Rattle.motor.specs.declared.engine.node.Acked.{Acked}
 use Rattle.motor.specs.declared.engine.node.Acked.TheVariants as acked
 use Rattle.motor.specs.declared.engine.node.Aim.{Aim}
@@ -33,7 +28,7 @@ module _ (f d : ℕ) where
   -- ---- after an acknowledgement or a pause
 
   -- a limit is written, or what follows comes at once
-  limit-fits : (m id : ℕ) (w : ℕ) (k : Acked) (n : Node) → four f d + acked_left f d k ≤ m → Fits f d m n → Fits f d m (put_limit id w k n)
+  limit-fits : (m id : ℕ) (w : Word) (k : Acked) (n : Node) → four f d + acked_left f d k ≤ m → Fits f d m n → Fits f d m (put_limit id w k n)
   limit-fits m id w k n h g = by-test (λ t x. Fits f d m x) (is_usable (abs_of w)) (λ e. (h, tt)) (λ e. g)
 
   -- one attempt of those left, or 18
@@ -73,29 +68,13 @@ module _ (f d : ℕ) where
   ensure-lost-fits ensure.Back a = (omega arith, tt)
 
   lost-fits : (k : Acked) → Fits f d (acked_left f d k) (not_acked k)
-  lost-fits acked.Done = (omega arith, tt)
-  lost-fits acked.FaultCleared = (omega arith, tt)
-  lost-fits acked.ZeroState = (omega arith, tt)
-  lost-fits (acked.Stopped m) = (omega arith, tt)
-  lost-fits (acked.CspEnable p v) = (omega arith, tt)
-  lost-fits (acked.CspLimit p v) = (omega arith, tt)
-  lost-fits (acked.PpEnable p v a) = (omega arith, tt)
-  lost-fits (acked.PpVelocity p v a) = (omega arith, tt)
-  lost-fits (acked.PpAcceleration p a) = (omega arith, tt)
-  lost-fits (acked.Target p) = (omega arith, tt)
   lost-fits (acked.Ensure stage a) = ensure-lost-fits stage a
+  lost-fits _ = (omega arith, tt)
 
   lost-got-fits : (k : Got) → Fits f d (got_left f d k) (no_value k)
-  lost-got-fits got.Value = (omega arith, tt)
-  lost-got-fits got.Flag = (omega arith, tt)
-  lost-got-fits got.F32 = (omega arith, tt)
-  lost-got-fits got.I8 = (omega arith, tt)
-  lost-got-fits got.Mode = (omega arith, tt)
-  lost-got-fits (got.StopMode timeout) = (omega arith, tt)
-  lost-got-fits got.StopCsp = (omega arith, tt)
-  lost-got-fits got.StopMit = (omega arith, tt)
   lost-got-fits (got.EnsureFirst a) = (omega arith, omega arith)
   lost-got-fits (got.EnsureBack a) = (omega arith, (omega arith, omega arith))
+  lost-got-fits _ = (omega arith, tt)
 
   pub gone-fits : (w : Wait) → Fits f d (wait_left f d w) (windows_gone w)
   gone-fits (wait.Acknowledged by r k) = lost-fits k
@@ -107,23 +86,20 @@ module _ (f d : ℕ) where
 
   -- values of another kind end it, and so do numbers that are no mode
   flag-fits : (v : ParameterValue) → Fits f d 0 (as_flag v)
-  flag-fits (value.I8 v) = (omega arith, tt)
   flag-fits (value.U8 v) = (omega arith, tt)
-  flag-fits (value.U16 v) = (omega arith, tt)
-  flag-fits (value.U32 v) = (omega arith, tt)
-  flag-fits (value.F32 w) = (omega arith, tt)
+  flag-fits _ = (omega arith, tt)
 
-  float_fits : (m : ℕ) (x : FloatIn) (k : Word → Node) → ((w : Word) → Fits f d m (k w)) → Fits f d m (as_float x k)
-  float_fits m (float.Float w) k h = h w
-  float_fits m float.Another k h = (omega arith, tt)
+  float_fits : (m : ℕ) (x : Option Word) (k : Word → Node) → ((w : Word) → Fits f d m (k w)) → Fits f d m (as_float x k)
+  float_fits m (Some w) k h = h w
+  float_fits m None k h = (omega arith, tt)
 
-  signed-fits : (m : ℕ) (x : SignedIn) (k : ℤ → Node) → ((n : ℤ) → Fits f d m (k n)) → Fits f d m (as_signed x k)
-  signed-fits m (signed.Signed n) k h = h n
-  signed-fits m signed.Another k h = (omega arith, tt)
+  signed-fits : (m : ℕ) (x : Option ℤ) (k : ℤ → Node) → ((n : ℤ) → Fits f d m (k n)) → Fits f d m (as_signed x k)
+  signed-fits m (Some n) k h = h n
+  signed-fits m None k h = (omega arith, tt)
 
-  mode-fits : (m : ℕ) (x : ModeRead) (k : ControlMode → Node) → ((c : ControlMode) → Fits f d m (k c)) → Fits f d m (mode_or17 x k)
-  mode-fits m (read.Mode c) k h = h c
-  mode-fits m (read.Refused r) k h = (omega arith, tt)
+  mode-fits : (m : ℕ) (x : Result ControlMode Refusal) (k : ControlMode → Node) → ((c : ControlMode) → Fits f d m (k c)) → Fits f d m (mode_or17 x k)
+  mode-fits m (Ok c) k h = h c
+  mode-fits m (Err r) k h = (omega arith, tt)
 
   -- controlled_stop in each mode
   stop-fits : (timeout : ℕ) (m : ControlMode) → Fits f d (8 * (f + d)) (stop_in timeout m)
@@ -133,16 +109,16 @@ module _ (f d : ℕ) where
   stop-fits timeout mode.PositionCsp = (omega arith, window-small timeout 150 (omega arith))
 
   -- ensure_control_mode's reads
-  first_fits : (a : Aim) (x : SignedIn) → Fits f d (got_left f d (got.EnsureFirst a)) (first_read a x)
-  first_fits a (signed.Signed v) =
+  first_fits : (a : Aim) (x : Option ℤ) → Fits f d (got_left f d (got.EnsureFirst a)) (first_read a x)
+  first_fits a (Some v) =
       by-test (λ t n. Fits f d (got_left f d (got.EnsureFirst a)) n) (is_mode a v) (λ e. (omega arith, tt)) (λ e. (omega arith, omega arith))
-  first_fits a signed.Another = (omega arith, omega arith)
+  first_fits a None = (omega arith, omega arith)
 
-  back_fits : (a : Aim) (x : SignedIn) → Fits f d (got_left f d (got.EnsureBack a)) (back_read a x)
-  back_fits a (signed.Signed v) =
+  back_fits : (a : Aim) (x : Option ℤ) → Fits f d (got_left f d (got.EnsureBack a)) (back_read a x)
+  back_fits a (Some v) =
       by-test (λ t n. Fits f d (got_left f d (got.EnsureBack a)) n) (is_mode a v) (λ e. (omega arith, tt))
       (λ e. (omega arith, (omega arith, omega arith)))
-  back_fits a signed.Another = (omega arith, (omega arith, omega arith))
+  back_fits a None = (omega arith, (omega arith, omega arith))
 
   pub got-fits : (s : Sight) (k : Got) (v : ParameterValue) → Fits f d (got_left f d k) (got_value s k v)
   got-fits s got.Value v = (omega arith, tt)

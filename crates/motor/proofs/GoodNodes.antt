@@ -1,24 +1,18 @@
 -- The nodes of operations: each fails by 16, 17, 18 or 20, if it fails, and writes what the encoder takes, if it writes; no other request
 -- of theirs is a write. Assumes nothing.
-use Rattle.std.proofs.Common.{◌≡◌, ℕ, zero, suc, Bool, true, false, cond, eqb, [], ◌∷◌, ℤ, refl, w8, of_z}
-use Rattle.codec.specs.declared.error.Checked.TheVariants as checked
+use Rattle.std.proofs.Common.{◌≡◌, ℕ, zero, suc, Bool, true, false, cond, eqb, [], ◌∷◌, ℤ, refl, w8, of_z, Option, Some, None, Ok, Err}
 use Rattle.codec.specs.declared.error.Refusal.{Refusal}
 use Rattle.codec.specs.declared.error.Refusal.TheVariants as refusal
 use Rattle.codec.specs.declared.protocol.ParameterValue.{ParameterValue}
 use Rattle.codec.specs.declared.protocol.ParameterValue.TheVariants as value
 use Rattle.codec.specs.declared.registers.ControlMode.{ControlMode}
 use Rattle.codec.specs.declared.registers.ControlMode.TheVariants as mode
-use Rattle.codec.specs.declared.registers.ModeRead.TheVariants as read
 use Rattle.codec.specs.declared.word.Word.{Word}
 use Rattle.codec.specs.Kinds.{among, listed_ids, int8_ids, uint8_ids, uint16_ids, uint32_ids, kind_of, parameter_info}
 use Rattle.codec.specs.Modes.{control_mode_from_raw}
 use Rattle.codec.specs.Refusals.{number_of}
 use Rattle.codec.specs.Values.{encode_parameter_value}
 use Rattle.motor.specs.declared.engine.operation.Sight.{Sight}
-use Rattle.motor.specs.declared.engine.kinds.FloatIn.{FloatIn}
-use Rattle.motor.specs.declared.engine.kinds.FloatIn.TheVariants as float
-use Rattle.motor.specs.declared.engine.kinds.SignedIn.{SignedIn}
-use Rattle.motor.specs.declared.engine.kinds.SignedIn.TheVariants as signed
 use Rattle.motor.specs.declared.engine.node.Acked.{Acked}
 use Rattle.motor.specs.declared.engine.node.Acked.TheVariants as acked
 use Rattle.motor.specs.declared.engine.node.Aim.{Aim}
@@ -38,6 +32,7 @@ use Rattle.motor.specs.Calls.{encodes}
 use Rattle.motor.specs.engine.Operations.{acked_of, not_acked, got_value, no_value, got_ping, windows_gone}
 use Rattle.motor.specs.engine.Run.{request_of}
 use Rattle.motor.specs.engine.Script.{as_mode, mode_or17, signed_in, float_in, as_flag, as_signed, as_float, stop_in, is_usable, abs_of, is_mode, first_read, back_read, try_in, ensure_acked}
+use Rattle.motor.proofs.engine.Choices.{either}
 
 -- the numbers by which an operation may fail
 abbrev pub ends_by : Refusal → Bool
@@ -64,14 +59,10 @@ Good node.ClearFault = Unit {0}
 Good (node.Fail r) = ends_by r ≡ true
 Good (node.Pause d k) = Unit {0}
 Good (node.Last r) = is_write r ≡ false
-Good (node.Write id v k) = encodes (encode_parameter_value id v) ≡ checked.Passed
+Good (node.Write id v k) = encodes (encode_parameter_value id v) ≡ Ok tt
 Good (node.Await w window whom) = is_write (request_of w) ≡ false
-Good (node.Motion p v kp kd t r) = Unit {0}
+Good (node.Motion t r) = Unit {0}
 Good (node.Rename new) = Unit {0}
-
-either-good : (b : Bool) (x y : Node) → Good x → Good y → Good (cond b x y)
-either-good true x y p q = p
-either-good false x y p q = q
 
 -- ---- every node of an operation is good
 
@@ -79,17 +70,17 @@ mode-good : (n : ℤ) (k : ControlMode → Node) → ((m : ControlMode) → Good
 unfolding control_mode_from_raw among
 mode-good n k g = go (eqb (of_z w8 n) 0) (eqb (of_z w8 n) 1) (eqb (of_z w8 n) 2) (eqb (of_z w8 n) 5)
   where
-    go : (a b c d : Bool) → Good (mode_or17 (cond a (read.Mode mode.Mit) (cond b (read.Mode mode.Position) (cond c (read.Mode mode.Velocity) (cond d (read.Mode mode.PositionCsp) (read.Refused refusal.UnsupportedRunMode))))) k)
+    go : (a b c d : Bool) → Good (mode_or17 (cond a (Ok mode.Mit) (cond b (Ok mode.Position) (cond c (Ok mode.Velocity) (cond d (Ok mode.PositionCsp) (Err refusal.UnsupportedRunMode))))) k)
     go true b c d = g mode.Mit
     go false true c d = g mode.Position
     go false false true d = g mode.Velocity
     go false false false true = g mode.PositionCsp
     go false false false false = refl
 
-as-mode-good : (v : SignedIn) (k : ControlMode → Node) → ((m : ControlMode) → Good (k m)) → Good (as_mode v k)
+as-mode-good : (v : Option ℤ) (k : ControlMode → Node) → ((m : ControlMode) → Good (k m)) → Good (as_mode v k)
 unfolding among
-as-mode-good (signed.Signed n) k g = mode-good n k g
-as-mode-good signed.Another k g = refl
+as-mode-good (Some n) k g = mode-good n k g
+as-mode-good None k g = refl
 
 stop-good : (timeout : ℕ) (m : ControlMode) → Good (stop_in timeout m)
 unfolding parameter_info kind_of among listed_ids int8_ids uint8_ids uint16_ids uint32_ids
@@ -116,56 +107,42 @@ ok-good acked.FaultCleared = tt
 ok-good acked.ZeroState = refl
 ok-good (acked.Stopped m) = tt
 ok-good (acked.CspEnable position most) = refl
-ok-good (acked.CspLimit position most) = either-good (is_usable (abs_of most)) _ _ refl refl
+ok-good (acked.CspLimit position most) = either Good (is_usable (abs_of most)) _ _ refl refl
 ok-good (acked.PpEnable position most acceleration) = refl
 ok-good (acked.PpVelocity position most acceleration) =
-    either-good (is_usable (abs_of most)) _ _ refl (either-good (is_usable (abs_of acceleration)) _ _ refl refl)
-ok-good (acked.PpAcceleration position acceleration) = either-good (is_usable (abs_of acceleration)) _ _ refl refl
+    either Good (is_usable (abs_of most)) _ _ refl (either Good (is_usable (abs_of acceleration)) _ _ refl refl)
+ok-good (acked.PpAcceleration position acceleration) = either Good (is_usable (abs_of acceleration)) _ _ refl refl
 ok-good (acked.Target position) = refl
 ok-good (acked.Ensure stage a) = ensure-good stage a
 
 lost-good : (k : Acked) → Good (not_acked k)
 unfolding among
-lost-good acked.Done = refl
-lost-good acked.FaultCleared = refl
-lost-good acked.ZeroState = refl
-lost-good (acked.Stopped m) = refl
-lost-good (acked.CspEnable position most) = refl
-lost-good (acked.CspLimit position most) = refl
-lost-good (acked.PpEnable position most acceleration) = refl
-lost-good (acked.PpVelocity position most acceleration) = refl
-lost-good (acked.PpAcceleration position acceleration) = refl
-lost-good (acked.Target position) = refl
 lost-good (acked.Ensure ensure.Off a) = tt
-lost-good (acked.Ensure ensure.Try a) = refl
 lost-good (acked.Ensure ensure.Written a) = tt
-lost-good (acked.Ensure ensure.Back a) = refl
+lost-good _ = refl
 
-first_good : (a : Aim) (v : SignedIn) → Good (first_read a v)
-first_good a (signed.Signed v) = either-good (is_mode a v) _ _ tt refl
-first_good a signed.Another = refl
+first_good : (a : Aim) (v : Option ℤ) → Good (first_read a v)
+first_good a (Some v) = either Good (is_mode a v) _ _ tt refl
+first_good a None = refl
 
-back-good : (a : Aim) (v : SignedIn) → Good (back_read a v)
-back-good a (signed.Signed v) = either-good (is_mode a v) _ _ tt tt
-back-good a signed.Another = tt
+back-good : (a : Aim) (v : Option ℤ) → Good (back_read a v)
+back-good a (Some v) = either Good (is_mode a v) _ _ tt tt
+back-good a None = tt
 
 flag-good : (v : ParameterValue) → Good (as_flag v)
 unfolding among
-flag-good (value.I8 v) = refl
 flag-good (value.U8 v) = tt
-flag-good (value.U16 v) = refl
-flag-good (value.U32 v) = refl
-flag-good (value.F32 w) = refl
+flag-good _ = refl
 
-float_good : (f : FloatIn) (k : Word → Node) → ((w : Word) → Good (k w)) → Good (as_float f k)
+float_good : (f : Option Word) (k : Word → Node) → ((w : Word) → Good (k w)) → Good (as_float f k)
 unfolding among
-float_good (float.Float w) k g = g w
-float_good float.Another k g = refl
+float_good (Some w) k g = g w
+float_good None k g = refl
 
-signed-good : (n : SignedIn) (k : ℤ → Node) → ((v : ℤ) → Good (k v)) → Good (as_signed n k)
+signed-good : (n : Option ℤ) (k : ℤ → Node) → ((v : ℤ) → Good (k v)) → Good (as_signed n k)
 unfolding among
-signed-good (signed.Signed v) k g = g v
-signed-good signed.Another k g = refl
+signed-good (Some v) k g = g v
+signed-good None k g = refl
 
 pub got-good : (s : Sight) (k : Got) (v : ParameterValue) → Good (got_value s k v)
 unfolding parameter_info kind_of among listed_ids int8_ids uint8_ids uint16_ids uint32_ids
@@ -182,16 +159,8 @@ got-good s (got.EnsureBack a) v = back-good a (signed_in v)
 
 lost-got-good : (k : Got) → Good (no_value k)
 unfolding among
-lost-got-good got.Value = refl
-lost-got-good got.Flag = refl
-lost-got-good got.F32 = refl
-lost-got-good got.I8 = refl
-lost-got-good got.Mode = refl
-lost-got-good (got.StopMode timeout) = refl
-lost-got-good got.StopCsp = refl
-lost-got-good got.StopMit = refl
-lost-got-good (got.EnsureFirst a) = refl
 lost-got-good (got.EnsureBack a) = tt
+lost-got-good _ = refl
 
 pub pinged-good : (k : Pinged) → Good (got_ping k)
 pinged-good pinged.Report = tt

@@ -1,7 +1,6 @@
 -- A call that passes its tests comes at a time of 10^15 or before. Assumes nothing.
-use Rattle.std.proofs.Common.{◌≡◌, ℕ, ◌≤◌, Bool, true, false, not, ◌||◌, ltb, List, [], ◌∷◌, refl, true≢false, arith, ltb-false, le-ltb}
-use Rattle.codec.specs.declared.error.Checked.{Checked}
-use Rattle.codec.specs.declared.error.Checked.TheVariants as checked
+use Rattle.std.proofs.Common.{◌≡◌, ℕ, ◌≤◌, Bool, true, false, not, ◌||◌, ltb, List, [], ◌∷◌, refl, true≢false, arith, ltb-false, le-ltb, Result, Ok, Err}
+use Rattle.std.specs.Prelude.{⊤}
 use Rattle.codec.specs.declared.error.Refusal.{Refusal}
 use Rattle.codec.specs.declared.error.Refusal.TheVariants as refusal
 use Rattle.motor.specs.declared.engine.command.Command.{Command}
@@ -15,7 +14,7 @@ use Rattle.motor.specs.Numbers.{first_of}
 use Rattle.motor.specs.Receive.{is_out_of_time}
 
 -- the first test of a list that passes isn't true
-first-false : (b : Bool) (r : Refusal) (tests : List (Bool × Refusal)) → first_of ((b, r) ∷ tests) ≡ checked.Passed → b ≡ false
+first-false : (b : Bool) (r : Refusal) (tests : List (Bool × Refusal)) → first_of ((b, r) ∷ tests) ≡ Ok tt → b ≡ false
 first-false true r tests e = let z : ◌≡◌ {A = ℕ} 0 1 = cc in absurd (omega arith)
 first-false false r tests e = refl
 
@@ -27,14 +26,14 @@ not_late clock now e = ltb-false latest_time now (second (ltb now clock) (ltb la
     second true b p = absurd (true≢false p)
     second false b p = p
 
-admitted-passed : (a b : Checked) → or_else a b ≡ checked.Passed → a ≡ checked.Passed
-admitted-passed checked.Passed b e = refl
-admitted-passed (checked.Refused r) b e = e
+admitted-passed : (a b : Result ⊤ Refusal) → or_else a b ≡ Ok tt → a ≡ Ok tt
+admitted-passed (Ok tt) b e = refl
+admitted-passed (Err r) b e = e
 
-pub start-in-time : (clock : ℕ) (p : Phase) (c : Command) (now : ℕ) → start_said clock p c now ≡ checked.Passed → now ≤ latest_time
+pub start-in-time : (clock : ℕ) (p : Phase) (c : Command) (now : ℕ) → start_said clock p c now ≡ Ok tt → now ≤ latest_time
 start-in-time clock p c now e = not_late clock now (first-false (is_out_of_time clock now) _ ((not (is_idle p), refusal.OperationRunning) ∷ (ltb longest_timeout (timeout_of c), refusal.TimeoutTooLong) ∷ []) (admitted-passed (start_admitted clock p c now) (argued_of c) e))
 
-pub step-in-time : (clock : ℕ) (p : Phase) (now : ℕ) → step_said clock p now ≡ checked.Passed → now ≤ latest_time
+pub step-in-time : (clock : ℕ) (p : Phase) (now : ℕ) → step_said clock p now ≡ Ok tt → now ≤ latest_time
 step-in-time clock p now e = not_late clock now (first-false (is_out_of_time clock now) _ ((is_idle p, refusal.NothingRunning) ∷ []) e)
 
 -- a move in time is made

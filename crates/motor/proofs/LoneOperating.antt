@@ -1,7 +1,8 @@
 -- On good readings a motor's start, step and look are the lone motor's. Assumes nothing.
-use Rattle.std.proofs.Common.{◌≡◌, ℕ, List, sym, refl, subst}
-use Rattle.codec.specs.declared.error.Checked.{Checked}
-use Rattle.codec.specs.declared.error.Checked.TheVariants as checked
+use Rattle.std.proofs.Common.{◌≡◌, ℕ, List, sym, refl, subst, Option, Result, Ok, Err}
+use Rattle.std.specs.Prelude.{⊤}
+use Rattle.motor.specs.declared.engine.reading.Stored.{Stored}
+use Rattle.codec.specs.declared.error.Refusal.{Refusal}
 use Rattle.motor.specs.declared.engine.command.Command.{Command}
 use Rattle.motor.specs.declared.engine.operation.Effect.{Effect}
 use Rattle.motor.specs.declared.engine.operation.Effect.TheVariants as effect
@@ -14,7 +15,6 @@ use Rattle.motor.specs.declared.motor.Seen.{Seen}
 use Rattle.motor.specs.declared.engine.node.Wait.{Wait}
 use Rattle.motor.specs.declared.engine.node.Wait.TheVariants as wait
 use Rattle.motor.specs.declared.readings.Entry.{Entry}
-use Rattle.motor.specs.declared.engine.reading.Found.{Found}
 use Rattle.motor.specs.Calls.{sight_of, readings_by, wanted, wanted_by, start_said, step_said}
 use Rattle.motor.specs.Lone.{lone_moved, lone_start_by, lone_start, lone_step_by, lone_step, lone_look}
 use Rattle.motor.specs.Motors.{lone_of, moved_by, start_by, start_of, step_by, step_of, look_of, AnsweredAs}
@@ -44,19 +44,19 @@ module _ (m : Motor) (l : List Entry) (x : Holds m.readings l) where
   wanted-as (phase.Pausing k) = refl
   wanted-as (phase.Waiting w) = wanted-as_lone w
 
-  start-by : (k : Checked) (c : Command) (now : ℕ) → AnsweredAs (start_by k m c now) (lone_start_by k (lone_of m l) c now)
-  start-by checked.Passed c now = moved_as now c (begun_by (sight_of m.state) now c)
-  start-by (checked.Refused r) c now = record { said = refl; frame = refl; result = refl; state = refl; readings = x }
+  start-by : (k : Result ⊤ Refusal) (c : Command) (now : ℕ) → AnsweredAs (start_by k m c now) (lone_start_by k (lone_of m l) c now)
+  start-by (Ok tt) c now = moved_as now c (begun_by (sight_of m.state) now c)
+  start-by (Err r) c now = record { said = refl; frame = refl; result = refl; state = refl; readings = x }
 
-  step-as_lone : (k : Checked) (now : ℕ) → AnsweredAs (step_by k m now) (lone_step_by k (lone_of m l) now)
-  step-as_lone checked.Passed now =
+  step-as_lone : (k : Result ⊤ Refusal) (now : ℕ) → AnsweredAs (step_by k m now) (lone_step_by k (lone_of m l) now)
+  step-as_lone (Ok tt) now =
       let s = m.state in
       let op = s.operation in
       subst
-      (λ (f : Found). AnsweredAs (step_by checked.Passed m now) (lone_moved (lone_of m l) now s.command (advanced (sight_of s) now op f op.phase)))
+      (λ (f : Option Stored). AnsweredAs (step_by (Ok tt) m now) (lone_moved (lone_of m l) now s.command (advanced (sight_of s) now op f op.phase)))
       (sym (wanted-as op.phase))
       (moved_as now s.command (advanced (sight_of s) now op (wanted op.phase (λ id. find_of m.readings id)) op.phase))
-  step-as_lone (checked.Refused r) now = record { said = refl; frame = refl; result = refl; state = refl; readings = x }
+  step-as_lone (Err r) now = record { said = refl; frame = refl; result = refl; state = refl; readings = x }
 
 -- a contract's second clause from its first
 

@@ -1,9 +1,9 @@
 -- On good readings a motor answers a frame as the lone motor does. Assumes nothing.
-use Rattle.std.proofs.Common.{◌≡◌, ℕ, Bool, true, false, cond, not, ◌&&◌, eqb, List, [], ◌∷◌, sym, refl, ap, subst}
+use Rattle.std.proofs.Common.{◌≡◌, ℕ, Bool, true, false, cond, not, ◌&&◌, eqb, List, [], ◌∷◌, sym, refl, ap, subst, Result, Ok, Err}
+use Rattle.std.specs.Prelude.{⊤}
+use Rattle.codec.specs.declared.error.Refusal.{Refusal}
 use Rattle.codec.specs.declared.bus.CanFrame.{CanFrame}
 use Rattle.codec.specs.declared.error.Refusal.TheVariants.{FrameNotAccepted, TimeOutOfRange, ReadFailed, ReadingsFull}
-use Rattle.codec.specs.declared.error.Checked.{Checked}
-use Rattle.codec.specs.declared.error.Checked.TheVariants.{Passed, Refused}
 use Rattle.motor.specs.declared.motor.State.{State}
 use Rattle.motor.specs.declared.motor.Motor.{Motor}
 use Rattle.motor.specs.declared.readings.Entry.{Entry}
@@ -29,15 +29,15 @@ full-leaves s f now new old = go (accepts_frame s.motor_id f) (is_out_of_time s.
     go true false true false e = refl
     go true false false z e = rw e
 
-readings-held : (said : Checked) (f : CanFrame) (new old : Readings) (newList oldList : List Entry) → Holds new newList → Holds old oldList
+readings-held : (said : Result ⊤ Refusal) (f : CanFrame) (new old : Readings) (newList oldList : List Entry) → Holds new newList → Holds old oldList
     → Holds (readings_after said f new old) (readings_after said f newList oldList)
 unfolding readings_after
-readings-held Passed f new old newList oldList n o = go (is_read f)
+readings-held (Ok tt) f new old newList oldList n o = go (is_read f)
   where
     go : (b : Bool) → Holds (cond b new old) (cond b newList oldList)
     go true = n
     go false = o
-readings-held (Refused r) f new old newList oldList n o = o
+readings-held (Err r) f new old newList oldList n o = o
 
 module _ (m : Motor) (f : CanFrame) (now : ℕ) (l : List Entry) (x : Holds m.readings l) where
   put-full-as : (b : Bool) → room (read_id f) l ≡ b → is_full (put_of m.readings (read_id f) (read_stored f)).said ≡ not b

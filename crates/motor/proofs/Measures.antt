@@ -44,7 +44,7 @@ Paced (node.Pause e k) = (0 < e) × (e ≤ longest_timeout)
 Paced (node.Last r) = Unit {0}
 Paced (node.Write id v k) = Unit {0}
 Paced (node.Await w window whom) = window ≤ longest_timeout
-Paced (node.Motion p v kp kd t r) = Unit {0}
+Paced (node.Motion t r) = Unit {0}
 Paced (node.Rename new) = Unit {0}
 
 -- a window is at most 60,000
@@ -118,7 +118,7 @@ module _ (f d : ℕ) where
   node_left (node.Last r) = f
   node_left (node.Write id v k) = four + acked_left k
   node_left (node.Await w window whom) = f + d + more_left whom 1 + wait_left w
-  node_left (node.Motion p v kp kd t r) = f
+  node_left (node.Motion t r) = f
   node_left (node.Rename new) = f
 
   -- what follows the next due step

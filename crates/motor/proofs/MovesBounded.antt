@@ -1,11 +1,11 @@
 -- Every move keeps within what was left, gives due times within reach, and keeps the window and the due time so. Assumes nothing.
-use Rattle.std.proofs.Common.{◌≡◌, ℕ, suc, ◌+◌, ◌-◌, ◌≤◌, Bool, true, cond, eqb, ltb, List, ◌∷◌, length, refl, ap, arith, ltb-true}
+use Rattle.std.proofs.Common.{◌≡◌, ℕ, suc, ◌+◌, ◌-◌, ◌≤◌, Bool, true, cond, eqb, ltb, List, ◌∷◌, length, refl, ap, arith, ltb-true, Option, Some, None, Result, Ok, Err}
+use Rattle.std.specs.Option.{option_map_or, is_some}
+use Rattle.codec.specs.declared.replies.VersionReply.{VersionReply}
+use Rattle.motor.specs.declared.engine.reading.Stored.{Stored}
+use Rattle.codec.specs.declared.error.Refusal.{Refusal}
 use Rattle.codec.specs.declared.bus.CanFrame.{CanFrame}
-use Rattle.codec.specs.declared.protocol.EncodedValue.{EncodedValue}
-use Rattle.codec.specs.declared.protocol.EncodedValue.TheVariants as encoded
 use Rattle.codec.specs.Values.{encode_parameter_value}
-use Rattle.motor.specs.declared.engine.candidates.Host.{Host}
-use Rattle.motor.specs.declared.engine.candidates.Host.TheVariants as host
 use Rattle.motor.specs.declared.engine.candidates.Hosts.{Hosts}
 use Rattle.motor.specs.declared.engine.candidates.Hosts.TheVariants as hosts
 use Rattle.motor.specs.declared.engine.command.Said.{Said}
@@ -23,13 +23,11 @@ use Rattle.motor.specs.declared.engine.node.Request.{Request}
 use Rattle.motor.specs.declared.engine.node.Request.TheVariants as request
 use Rattle.motor.specs.declared.engine.node.Wait.{Wait}
 use Rattle.motor.specs.declared.engine.node.Wait.TheVariants as wait
-use Rattle.motor.specs.declared.engine.reading.Found.{Found}
-use Rattle.motor.specs.declared.engine.reading.Found.TheVariants as found
 use Rattle.motor.specs.Limits.{longest_timeout}
 use Rattle.motor.specs.Bounds.{has_frame, GivenWithin}
 use Rattle.motor.specs.engine.Hosts.{host_candidates, next_host}
 use Rattle.motor.specs.engine.Operations.{acked_of, got_value, got_ping, windows_gone}
-use Rattle.motor.specs.engine.Run.{no_operation, tried, after_node, send_then, sent_on, write_raw, write, entered, retry_at, waits, timed, acknowledgement_count, looked, advanced}
+use Rattle.motor.specs.engine.Run.{no_operation, tried, send_then, sent_on, write_raw, write, entered, retry_at, waits, timed, acknowledgement_count, looked, advanced, version_reported}
 use Rattle.motor.proofs.Follows.{ok-fits, gone-fits, got-fits, pinged-fits}
 use Rattle.motor.proofs.Measures.{by-test, many, window-small, four, acked_left, wait_left, more_left, rest_left, phase_left, op_left, Fits}
 
@@ -41,9 +39,9 @@ unfolding host_candidates
 count_small own = by-test (λ t l. length (own ∷ l) ≤ 4) (eqb own 0xFD) (λ e. omega arith) (λ e. omega arith)
 
 -- an attempt at the next place is one of those that were left
-abbrev OneLess : ℕ → ℕ → Hosts → ℕ → Host → Type 0
-OneLess f d whom i (host.At h next) = f + d + more_left f d whom next ≤ more_left f d whom i
-OneLess f d whom i host.Gone = Unit {0}
+abbrev OneLess : ℕ → ℕ → Hosts → ℕ → Option (ℕ × ℕ) → Type 0
+OneLess f d whom i (Some (h, next)) = f + d + more_left f d whom next ≤ more_left f d whom i
+OneLess f d whom i None = Unit {0}
 
 next-less : (f d own : ℕ) (whom : Hosts) (i : ℕ) → OneLess f d whom i (next_host own whom i)
 next-less f d own hosts.Candidates i =
@@ -91,17 +89,10 @@ module _ (f d most now : ℕ) (far : longest_timeout ≤ most) where
 
   -- by what follows
   then-moves : (m : ℕ) (frame : CanFrame) (k : Acked) (n : Node) → Fits f d (acked_left f d k) n → four f d + acked_left f d k ≤ m
-      → Moved m (send_then now frame k (after_node n))
+      → Moved m (send_then now frame k n)
   then-moves m frame k (node.Finish r) g fits = ended m _ frame _ _ (omega arith) tt
-  then-moves m frame k node.Report g fits = at_once m frame k fits
-  then-moves m frame k node.ClearFault g fits = at_once m frame k fits
-  then-moves m frame k (node.Fail r) g fits = at_once m frame k fits
   then-moves m frame k (node.Pause e then) g fits = sent-moves m frame then e (omega (arith, g.1.1)) (omega (arith, g.0))
-  then-moves m frame k (node.Last r) g fits = at_once m frame k fits
-  then-moves m frame k (node.Write id v then) g fits = at_once m frame k fits
-  then-moves m frame k (node.Await w window whom) g fits = at_once m frame k fits
-  then-moves m frame k (node.Motion p v kp kd t r) g fits = at_once m frame k fits
-  then-moves m frame k (node.Rename new) g fits = at_once m frame k fits
+  then-moves m frame k _ g fits = at_once m frame k fits
 
   -- a write, with a write wait or without
   raw-moves : (m : ℕ) (s : Sight) (r : Request) (k : Acked) → four f d + acked_left f d k ≤ m → Moved m (write_raw s now r k)
@@ -113,9 +104,9 @@ module _ (f d most now : ℕ) (far : longest_timeout ≤ most) where
       (omega (arith, window-small s.write_wait 120 (omega arith)))
       (omega arith))
 
-  write_moves : (m : ℕ) (s : Sight) (id : ℕ) (k : Acked) (e : EncodedValue) → four f d + acked_left f d k ≤ m → Moved m (write s now id k e)
-  write_moves m s id k (encoded.Raw raw) fits = raw-moves m s (request.Write id raw) k fits
-  write_moves m s id k (encoded.Refused r) fits = ended m _ _ _ _ (omega arith) tt
+  write_moves : (m : ℕ) (s : Sight) (id : ℕ) (k : Acked) (e : Result ℕ Refusal) → four f d + acked_left f d k ≤ m → Moved m (write s now id k e)
+  write_moves m s id k (Ok raw) fits = raw-moves m s (request.Write id raw) k fits
+  write_moves m s id k (Err r) fits = ended m _ _ _ _ (omega arith) tt
 
   -- a node that fits is entered
   pub enter-moves : (m l : ℕ) (s : Sight) (n : Node) → Fits f d l n → l ≤ m → Moved m (entered s now n)
@@ -133,7 +124,7 @@ module _ (f d most now : ℕ) (far : longest_timeout ≤ most) where
   enter-moves m l s (node.Last r) g h = ended m _ _ _ _ (omega (arith, g.0)) tt
   enter-moves m l s (node.Write id v k) g h = write_moves m s id k (encode_parameter_value id v) (omega (arith, g.0))
   enter-moves m l s (node.Await w window whom) g h = attempt-moves m s w window whom _ 1 (omega (arith, g.1)) (omega (arith, g.0))
-  enter-moves m l s (node.Motion p v kp kd t r) g h = ended m _ _ _ _ (omega (arith, g.0)) tt
+  enter-moves m l s (node.Motion t r) g h = ended m _ _ _ _ (omega (arith, g.0)) tt
   enter-moves m l s (node.Rename new) g h = ended m _ _ _ _ (omega (arith, g.0)) tt
 
   -- ---- a step of this operation, whose window and due time are within reach
@@ -146,10 +137,10 @@ module _ (f d most now : ℕ) (far : longest_timeout ≤ most) where
         record { paid = omega arith; given = (omega arith, near, refl); window = small; due = near }
 
     -- the next host, or what follows the last
-    retry-moves : (m : ℕ) (w : Wait) (h : Host) → OneLess f d op.hosts op.candidate h → rest_left f d (phase.Waiting w) op ≤ m
+    retry-moves : (m : ℕ) (w : Wait) (h : Option (ℕ × ℕ)) → OneLess f d op.hosts op.candidate h → rest_left f d (phase.Waiting w) op ≤ m
         → Moved m (retry_at s now op w h)
-    retry-moves m w (host.At h next) less fits = attempt-moves m s w op.window op.hosts h next small (omega arith)
-    retry-moves m w host.Gone less fits = enter-moves m _ s (windows_gone w) (gone-fits f d w) (omega arith)
+    retry-moves m w (Some (h, next)) less fits = attempt-moves m s w op.window op.hosts h next small (omega arith)
+    retry-moves m w None less fits = enter-moves m _ s (windows_gone w) (gone-fits f d w) (omega arith)
 
     -- what is left after this step, which is due or early
     abbrev budget : Phase → Bool → ℕ
@@ -162,7 +153,7 @@ module _ (f d most now : ℕ) (far : longest_timeout ≤ most) where
         by-test (λ t x. Moved (budget (phase.Waiting w) t) x) (ltb now op.due) h
         (λ e. retry-moves _ w (next_host s.feedback_id op.hosts op.candidate) (next-less f d s.feedback_id op.hosts op.candidate) (omega arith))
 
-    look-moves : (w : Wait) (r : Found) → op_left f d op ≤ phase_left f d (phase.Waiting w) op
+    look-moves : (w : Wait) (r : Option Stored) → op_left f d op ≤ phase_left f d (phase.Waiting w) op
         → Moved (budget (phase.Waiting w) (ltb now op.due)) (looked s now op r w)
     look-moves (wait.Acknowledged by r k) x h =
         timed-moves (wait.Acknowledged by r k) _
@@ -170,19 +161,21 @@ module _ (f d most now : ℕ) (far : longest_timeout ≤ most) where
         by-test (λ t v. Moved (budget (phase.Waiting (wait.Acknowledged by r k)) true) v) (ltb op.mark (acknowledgement_count s by))
         (λ e. enter-moves _ _ s (acked_of k) (ok-fits f d k) (omega arith))
         (λ e. still-moves _ early (omega arith)))
-    look-moves (wait.Value id k) (found.Held r) h = enter-moves _ _ s (got_value s k r.value) (got-fits f d s k r.value) (omega arith)
-    look-moves (wait.Value id k) found.Nothing h = timed-moves (wait.Value id k) _ (λ early. still-moves _ early (omega arith))
+    look-moves (wait.Value id k) (Some r) h = enter-moves _ _ s (got_value s k r.value) (got-fits f d s k r.value) (omega arith)
+    look-moves (wait.Value id k) None h = timed-moves (wait.Value id k) _ (λ early. still-moves _ early (omega arith))
     look-moves (wait.Ping k) x h =
-        by-test (λ t v. Moved (budget (phase.Waiting (wait.Ping k)) (ltb now op.due)) v) s.ping_reply.held
+        by-test (λ t v. Moved (budget (phase.Waiting (wait.Ping k)) (ltb now op.due)) v) (is_some s.ping_reply)
         (λ e. enter-moves _ _ s (got_ping k) (pinged-fits f d k) (omega arith))
         (λ e. timed-moves (wait.Ping k) _ (λ early. still-moves _ early (omega arith)))
-    look-moves wait.Version x h =
-        by-test (λ t v. Moved (budget (phase.Waiting wait.Version) (ltb now op.due)) v) op.answer.held
-        (λ e. ended _ _ _ _ _ (omega arith) tt)
-        (λ e. timed-moves wait.Version _ (λ early. still-moves _ early (omega arith)))
+    look-moves wait.Version x h = go op.answer
+      where
+        go : (answer : Option VersionReply)
+            → Moved (budget (phase.Waiting wait.Version) (ltb now op.due)) (option_map_or version_reported answer (timed s now op wait.Version (waits op)))
+        go (Some reply) = ended _ _ _ _ _ (omega arith) tt
+        go None = timed-moves wait.Version _ (λ early. still-moves _ early (omega arith))
 
     -- any step
-    pub advance-moves : (p : Phase) (r : Found) → op_left f d op ≤ phase_left f d p op → Moved (budget p (ltb now op.due)) (advanced s now op r p)
+    pub advance-moves : (p : Phase) (r : Option Stored) → op_left f d op ≤ phase_left f d p op → Moved (budget p (ltb now op.due)) (advanced s now op r p)
     advance-moves phase.Idle r h = ended _ _ _ _ _ (omega arith) tt
     advance-moves (phase.Pausing k) r h =
         by-test (λ t v. Moved (budget (phase.Pausing k) t) v) (ltb now op.due)

@@ -1,10 +1,10 @@
 -- Readings as a caller uses them: `Holds rs l` says that rs is good and holds l. Assumes nothing.
-use Rattle.std.proofs.Common.{◌≡◌, ℕ, ◌+◌, ◌-◌, ◌≤◌, Bool, true, false, cond, ltb, List, [], ◌∷◌, length, take, replicate, sym, refl, ap, ◌∙◌, subst, arith, le-ltb, lt-ltb}
+use Rattle.std.proofs.Common.{◌≡◌, ℕ, ◌+◌, ◌-◌, ◌≤◌, Bool, true, false, cond, ltb, List, [], ◌∷◌, length, take, replicate, sym, refl, ap, ◌∙◌, subst, arith, le-ltb, lt-ltb, Ok, Err}
 use lib.Seq.{take-append_seam}
+use Rattle.codec.specs.declared.error.Refusal.TheVariants.{ReadingsFull}
 use Rattle.motor.specs.declared.engine.reading.Stored.{Stored}
 use Rattle.motor.specs.declared.readings.Readings.{Readings}
 use Rattle.motor.specs.declared.readings.Entry.{Entry}
-use Rattle.motor.specs.declared.readings.PutAnswer.TheVariants.{Kept, Full}
 use Rattle.motor.specs.Limits.{most_readings}
 use Rattle.motor.specs.Readings.{holds, lookup, insert, remove, room, Rising, Numbered, entries, Lists, at_first, record_of, placed_in, take_out, new_in, put_in, drop_in, no_entry, Rep, Holds, Puts, listing, empty_readings, find_of, put_of, drop_id, listed_of}
 use Rattle.motor.proofs.Entries.{remove-none, entries-placed, entries-taken}
@@ -54,14 +54,14 @@ module _ (rs : Readings) (l : List Entry) (x : Holds rs l) where
   puts : (id : ℕ) (s : Stored) → Puts rs x.lists id s (put_of rs id s)
   puts id s = put-rep rs x.lists.held x.lists.free x.rep id s
 
-  pub put_holds : (id : ℕ) (s : Stored) → room id l ≡ true → ((put_of rs id s).said ≡ Kept) × Holds (put_of rs id s).readings (insert id s l)
+  pub put_holds : (id : ℕ) (s : Stored) → room id l ≡ true → ((put_of rs id s).said ≡ Ok tt) × Holds (put_of rs id s).readings (insert id s l)
   put_holds id s h =
       let k : room id (entries x.lists.held) ≡ true = ap (room id) x.same ∙ h in (
         (puts id s).said ∙ rw k,
         record { lists = put_in id s x.lists; rep = (puts id s).rep; same = entries-put rs x.lists x.rep id s ∙ rw k (ap (insert id s) x.same) },
       )
 
-  pub put_full : (id : ℕ) (s : Stored) → room id l ≡ false → ((put_of rs id s).said ≡ Full) × ((put_of rs id s).readings ≡ rs)
+  pub put_full : (id : ℕ) (s : Stored) → room id l ≡ false → ((put_of rs id s).said ≡ Err ReadingsFull) × ((put_of rs id s).readings ≡ rs)
   put_full id s h =
       let k : room id (entries x.lists.held) ≡ false = ap (room id) x.same ∙ h in
       ((puts id s).said ∙ rw k, (puts id s).full k)

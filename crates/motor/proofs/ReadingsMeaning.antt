@@ -1,11 +1,10 @@
 -- What the functions give is what the lists say, where the records are good. Assumes nothing.
-use Rattle.std.proofs.Common.{◌≡◌, ℕ, Bool, true, false, cond, eqb, ltb, List, [], ◌∷◌, ◌++◌, length, sym, refl, ap, ◌∙◌, subst, arith, le-ltb, lt-ltb, eq-eqb, ne_eqb, eqb-true}
+use Rattle.std.proofs.Common.{◌≡◌, ℕ, Bool, true, false, cond, eqb, ltb, List, [], ◌∷◌, ◌++◌, length, sym, refl, ap, ◌∙◌, subst, arith, le-ltb, lt-ltb, eq-eqb, ne_eqb, eqb-true, Some}
 use borrow.Author.Tests.{eqb-false}
 use Rattle.motor.specs.declared.engine.reading.Stored.{Stored}
 use Rattle.motor.specs.declared.readings.Reading.{Reading}
 use Rattle.motor.specs.declared.readings.Readings.{Readings}
 use Rattle.motor.specs.declared.readings.Entry.{Entry}
-use Rattle.motor.specs.declared.engine.reading.Found.TheVariants.{Held}
 use Rattle.motor.specs.Limits.{most_readings}
 use Rattle.motor.specs.Readings.{entry, holds, lookup, Rising, Numbered, entries, Lists, record_of, placed_in, take_out, drop_in, blank_stored, next_at, Chain, Rep, Puts, seek_of, holder_at, holder_of, found_at, find_of, add_at, put_at, put_of, drop_at, drop_id, walk}
 use Rattle.motor.proofs.Entries.{never, holds-first, lookup-none, record-none, insert-rising, remove-rising, rising-back, entries-placed, entries-taken, holds-skip, lookup-skip, record-skip, take-skip, place-skip}
@@ -70,7 +69,7 @@ module _ (rs : Readings) (held : List Numbered) (free : List ℕ) (x : Rep rs (l
       (λ ps bs y s h. sym (lookup-none id (entries (ps ++ bs)) (holds-skip id ps bs s.low ∙ h)))
       (λ ps b bs y s e.
       rw (ne_eqb b.0 0 (λ z. omega (arith, s.rest.1, z)), lookup-skip id ps (b ∷ bs) s.low, eq-eqb b.1.id id e)
-      (ap (λ (t : Entry). Held t.held) s.rest.3))
+      (ap (λ (t : Entry). Some t.held) s.rest.3))
 
   -- the record that the search finds
   pub record-rep : holder_of rs id ≡ record_of id held

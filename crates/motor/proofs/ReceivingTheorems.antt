@@ -1,13 +1,12 @@
 -- What holds of every frame: it keeps the operation but for get_version's answer, dlc and is_rx don't matter, each accepted one is counted, and a value put has the table's kind.
 -- Assumes nothing.
-use Rattle.std.proofs.Common.{◌≡◌, ℕ, ◌+◌, ◌%◌, ◌^◌, Bool, true, false, cond, not, ◌&&◌, eqb, ltb, List, [], ◌∷◌, refl}
+use Rattle.std.proofs.Common.{◌≡◌, ℕ, ◌+◌, ◌%◌, ◌^◌, Bool, true, false, cond, not, ◌&&◌, eqb, ltb, List, [], ◌∷◌, refl, Some, None, Result, Ok, Err}
+use Rattle.std.specs.Prelude.{⊤}
+use Rattle.codec.specs.declared.error.Refusal.{Refusal}
 use Rattle.codec.specs.declared.bus.CanFrame.{CanFrame}
 use Rattle.codec.specs.declared.error.Refusal.TheVariants.{ReadFailed, ReadingsFull}
-use Rattle.codec.specs.declared.error.Checked.{Checked}
-use Rattle.codec.specs.declared.error.Checked.TheVariants.{Passed, Refused}
 use Rattle.codec.specs.declared.registers.ParameterDataType.{ParameterDataType}
 use Rattle.codec.specs.declared.registers.ParameterDataType.TheVariants.{Int8, UInt8, UInt16, UInt32, Float32}
-use Rattle.codec.specs.declared.registers.ParameterInfo.TheVariants.{Listed, Unlisted}
 use Rattle.codec.specs.Kinds.{among, listed_ids, kind_of, parameter_info}
 use Rattle.codec.specs.Refusals.{number_of}
 use Rattle.codec.specs.Values.{le32, kind_in, value_as, value_by}
@@ -26,10 +25,10 @@ use Rattle.motor.proofs.Receiving.{either-rule}
 abbrev pub SameOperation : State → State → Type 0
 SameOperation s t = (t.operation ≡ with_answer s.operation t.operation.answer) × (t.command ≡ s.command)
 
-state-keeps : (said : Checked) (s : State) (f : CanFrame) (now : ℕ) → SameOperation s (state_after said s f now)
+state-keeps : (said : Result ⊤ Refusal) (s : State) (f : CanFrame) (now : ℕ) → SameOperation s (state_after said s f now)
 unfolding state_after answer_taken told_by counted_at
-state-keeps Passed s f now = either-rule (SameOperation s) (counted_at s now) f (refl, refl) (refl, refl)
-state-keeps (Refused r) s f now = go (among (number_of r) (14 ∷ 15 ∷ []))
+state-keeps (Ok tt) s f now = either-rule (SameOperation s) (counted_at s now) f (refl, refl) (refl, refl)
+state-keeps (Err r) s f now = go (among (number_of r) (14 ∷ 15 ∷ []))
   where
     go : (b : Bool) → SameOperation s (cond b (counted_at s now) s)
     go true = (refl, refl)
@@ -49,15 +48,15 @@ abbrev pub with_dlc : CanFrame → ℕ → Bool → CanFrame
 with_dlc f dlc rx = record { arbitration_id = f.arbitration_id; «data» = f.data; dlc = dlc; is_extended = f.is_extended; is_rx = rx }
 
 module _ (f : CanFrame) (dlc : ℕ) (rx : Bool) where
-  state-ignores : (said : Checked) (s : State) (now : ℕ) → state_after said s (with_dlc f dlc rx) now ≡ state_after said s f now
+  state-ignores : (said : Result ⊤ Refusal) (s : State) (now : ℕ) → state_after said s (with_dlc f dlc rx) now ≡ state_after said s f now
   unfolding state_after answer_taken version_in told_by ping_after feedback_after feedback_in fault_after
-  state-ignores Passed s now = refl
-  state-ignores (Refused r) s now = refl
+  state-ignores (Ok tt) s now = refl
+  state-ignores (Err r) s now = refl
 
-  readings-ignore : (said : Checked) (new old : Readings) → readings_after said (with_dlc f dlc rx) new old ≡ readings_after said f new old
+  readings-ignore : (said : Result ⊤ Refusal) (new old : Readings) → readings_after said (with_dlc f dlc rx) new old ≡ readings_after said f new old
   unfolding readings_after is_read
-  readings-ignore Passed new old = refl
-  readings-ignore (Refused r) new old = refl
+  readings-ignore (Ok tt) new old = refl
+  readings-ignore (Err r) new old = refl
 
   pub dlc-ignored : (m : Motor) (now : ℕ) → process_feedback_frame m (with_dlc f dlc rx) now ≡ process_feedback_frame m f now
   unfolding process_feedback_frame frame_said accepts_frame is_read read_status read_id read_stored
@@ -74,7 +73,7 @@ module _ (s : State) (f : CanFrame) (now : ℕ) (full : Bool) (a : accepts_frame
   state-counts = rw (a, l) (go (is_read f && not (eqb (read_status f) 0)) (is_read f && full))
     where
       after : Bool → Bool → State
-      after x y = state_after (cond x (Refused (ReadFailed (read_id f) (read_status f))) (cond y (Refused ReadingsFull) Passed)) s f now
+      after x y = state_after (cond x (Err (ReadFailed (read_id f) (read_status f))) (cond y (Err ReadingsFull) (Ok tt))) s f now
 
       Counted : State → Type 0
       Counted t = (t.clock ≡ now) × (t.responses ≡ (s.responses + 1) % 2 ^ 64)
@@ -102,7 +101,7 @@ pub kinds-held : (f : CanFrame) → kind_in (read_stored f).value ≡ held_kind 
 unfolding read_stored held_kind parameter_info
 kinds-held f = go (among (read_id f) listed_ids)
   where
-    go : (b : Bool) → kind_in (value_by (cond b (Listed (kind_of (read_id f))) Unlisted) (le32 f.data 4)) ≡ cond b (kind_of (read_id f)) UInt32
+    go : (b : Bool) → kind_in (value_by (cond b (Some (kind_of (read_id f))) None) (le32 f.data 4)) ≡ cond b (kind_of (read_id f)) UInt32
     go true = kind-in (kind_of (read_id f)) (le32 f.data 4)
     go false = refl
 
@@ -128,6 +127,6 @@ kinds-stay m f now k = go (frame_said m.state f now (not (room (read_id f) m.rea
     put true = kinds-inserted f m.readings k
     put false = k
 
-    go : (said : Checked) → Kinds (readings_after said f (insert (read_id f) (read_stored f) m.readings) m.readings)
-    go Passed = put (is_read f)
-    go (Refused r) = k
+    go : (said : Result ⊤ Refusal) → Kinds (readings_after said f (insert (read_id f) (read_stored f) m.readings) m.readings)
+    go (Ok tt) = put (is_read f)
+    go (Err r) = k

@@ -1,13 +1,10 @@
 -- Which numbers move the clock, and that the tests of start and step refuse by none of them. Assumes nothing.
-use Rattle.std.proofs.Common.{◌≡◌, ℕ, Bool, true, false, cond, not, eqb, ltb, [], ◌∷◌, refl, arith}
-use Rattle.codec.specs.declared.error.Checked.{Checked}
-use Rattle.codec.specs.declared.error.Checked.TheVariants as checked
+use Rattle.std.proofs.Common.{◌≡◌, ℕ, Bool, true, false, cond, not, eqb, ltb, [], ◌∷◌, refl, arith, Option, Some, None, Result, Ok, Err}
+use Rattle.std.specs.Prelude.{⊤}
+use Rattle.codec.specs.declared.registers.ParameterDataType.{ParameterDataType}
 use Rattle.codec.specs.declared.error.Refusal.{Refusal}
 use Rattle.codec.specs.declared.error.Refusal.TheVariants as refusal
-use Rattle.codec.specs.declared.protocol.EncodedValue.TheVariants as encoded
 use Rattle.codec.specs.declared.protocol.ParameterValue.{ParameterValue}
-use Rattle.codec.specs.declared.registers.ParameterInfo.{ParameterInfo}
-use Rattle.codec.specs.declared.registers.ParameterInfo.TheVariants as info
 use Rattle.codec.specs.Kinds.{among, kind_number, parameter_info}
 use Rattle.codec.specs.Refusals.{number_of}
 use Rattle.codec.specs.Values.{kind_in, raw_of, encoded_by}
@@ -35,15 +32,15 @@ moves (said.Finished r) = true
 moves (said.FinishedWith r) = true
 moves (said.Refused r) = moves_by r
 
-abbrev pub heard_moves : Checked → Bool
-heard_moves checked.Passed = true
-heard_moves (checked.Refused r) = moves_by r
+abbrev pub heard_moves : Result ⊤ Refusal → Bool
+heard_moves (Ok tt) = true
+heard_moves (Err r) = moves_by r
 
 -- ---- the tests of start and step refuse by none of them
 
-abbrev pub Stays : Checked → Type 0
-Stays checked.Passed = Unit {0}
-Stays (checked.Refused r) = moves_by r ≡ false
+abbrev pub Stays : Result ⊤ Refusal → Type 0
+Stays (Ok tt) = Unit {0}
+Stays (Err r) = moves_by r ≡ false
 
 two-stay : (a b : Bool) (r s : Refusal) → moves_by r ≡ false → moves_by s ≡ false → Stays (first_of ((a, r) ∷ (b, s) ∷ []))
 two-stay true b r s p q = p
@@ -60,16 +57,16 @@ admitted-stays clock p c now = go (is_out_of_time clock now) (not (is_idle p)) (
     go false false true = refl
     go false false false = tt
 
-one-stays : (a : Bool) (r : Refusal) → moves_by r ≡ false → Stays (cond a (checked.Refused r) checked.Passed)
+one-stays : (a : Bool) (r : Refusal) → moves_by r ≡ false → Stays (cond a (Err r) (Ok tt))
 one-stays true r h = h
 one-stays false r h = tt
 
-written-stays : (i : ParameterInfo) (v : ParameterValue) → Stays (encodes (encoded_by i v))
+written-stays : (i : Option ParameterDataType) (v : ParameterValue) → Stays (encodes (encoded_by i v))
 unfolding among
-written-stays info.Unlisted v = refl
-written-stays (info.Listed kind) v = go (eqb (kind_number kind) (kind_number (kind_in v)))
+written-stays None v = refl
+written-stays (Some kind) v = go (eqb (kind_number kind) (kind_number (kind_in v)))
   where
-    go : (b : Bool) → Stays (encodes (cond (not b) (encoded.Refused refusal.KindDiffers) (encoded.Raw (raw_of v))))
+    go : (b : Bool) → Stays (encodes (cond (not b) (Err refusal.KindDiffers) (Ok (raw_of v))))
     go true = tt
     go false = refl
 
@@ -84,9 +81,9 @@ argued-stays (written_value id v) = written-stays (parameter_info id) v
 pub start-stays : (clock : ℕ) (p : Phase) (c : Command) (now : ℕ) → Stays (start_said clock p c now)
 start-stays clock p c now = go (start_admitted clock p c now) (admitted-stays clock p c now)
   where
-    go : (a : Checked) → Stays a → Stays (or_else a (argued_of c))
-    go checked.Passed h = argued-stays (command_row c).argument
-    go (checked.Refused r) h = h
+    go : (a : Result ⊤ Refusal) → Stays a → Stays (or_else a (argued_of c))
+    go (Ok tt) h = argued-stays (command_row c).argument
+    go (Err r) h = h
 
 pub step_stays : (clock : ℕ) (p : Phase) (now : ℕ) → Stays (step_said clock p now)
 unfolding among
@@ -94,13 +91,13 @@ step_stays clock p now = two-stay (is_out_of_time clock now) (is_idle p) refusal
 
 -- what passes has passed the argument tests; what may step runs
 
-pub argued-passed : (a b : Checked) → or_else a b ≡ checked.Passed → b ≡ checked.Passed
-argued-passed checked.Passed b h = h
-argued-passed (checked.Refused r) b h =
+pub argued-passed : (a b : Result ⊤ Refusal) → or_else a b ≡ Ok tt → b ≡ Ok tt
+argued-passed (Ok tt) b h = h
+argued-passed (Err r) b h =
     let z : ◌≡◌ {A = ℕ} 0 1 = cc in
     absurd (omega arith)
 
-pub running : (a b : Bool) → first_of ((a, refusal.TimeOutOfRange) ∷ (b, refusal.NothingRunning) ∷ []) ≡ checked.Passed → b ≡ false
+pub running : (a b : Bool) → first_of ((a, refusal.TimeOutOfRange) ∷ (b, refusal.NothingRunning) ∷ []) ≡ Ok tt → b ≡ false
 running true b h =
     let z : ◌≡◌ {A = ℕ} 0 1 = cc in
     absurd (omega arith)

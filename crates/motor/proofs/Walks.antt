@@ -1,5 +1,5 @@
 -- The loop along the chain: what it has listed is the front of the walk. Assumes nothing.
-use Rattle.std.proofs.Common.{◌≡◌, ℕ, zero, suc, ◌+◌, ◌-◌, ◌<◌, ◌≤◌, List, [], ◌∷◌, ◌++◌, length, set, replicate, sym, refl, ap, ◌∙◌, append_assoc, append-nil, arith, length-append, le-ltb, lt-ltb, eq-eqb, ne_eqb}
+use Rattle.std.proofs.Common.{◌≡◌, ℕ, zero, suc, ◌+◌, ◌-◌, ◌<◌, ◌≤◌, List, [], ◌∷◌, ◌++◌, length, set, replicate, sym, refl, ap, ◌∙◌, append_assoc, append-nil, arith, length-append, le-ltb, lt-ltb, eq-eqb, ne_eqb, Some, None, ◌⊎◌, inl, inr}
 use lib.Seq.{set_at}
 use Rattle.motor.specs.declared.engine.reading.Stored.{Stored}
 use Rattle.motor.specs.declared.readings.Reading.{Reading}
@@ -7,8 +7,9 @@ use Rattle.motor.specs.declared.readings.Readings.{Readings}
 use Rattle.motor.specs.declared.readings.Entry.{Entry}
 use Rattle.motor.specs.declared.readings.Listing.{Listing}
 use Rattle.motor.specs.Limits.{most_readings}
-use Rattle.motor.specs.Readings.{entry, blank_stored, no_entry, next_at, entry_at, Holds, listing, walk, listed_of}
+use Rattle.motor.specs.Readings.{entry, blank_stored, no_entry, next_at, entry_at, Holds, listing, walk, listed_of, index_of}
 use Rattle.motor.proofs.ReadingsHeld.{listing-holds}
+use Rattle.motor.proofs.Sites.{index-in, index-out}
 
 -- ---- steps of the walk
 
@@ -40,9 +41,9 @@ pub record Walked (rs : Readings) (es : List Entry) (count n : ℕ) : Type 0 whe
 pub walked-first : (rs : Readings) (s : Stored) → s ≡ blank_stored → Walked rs (replicate most_readings (entry 0 s)) 0 (next_at rs.records 0)
 walked-first rs s e = record { passed = []; most = omega arith; counted = refl; filled = rw e; rest = refl }
 
-pub walked_more : (rs : Readings) (es : List Entry) (count n : ℕ) → Walked rs es count n → count < most_readings → (n ≡ 0 → ⊥) → n ≤ most_readings
+walked-at : (rs : Readings) (es : List Entry) (count n : ℕ) → Walked rs es count n → count < most_readings → (n ≡ 0 → ⊥) → n ≤ most_readings
     → Walked rs (set es count (entry_at rs.records n)) (count + 1) (next_at rs.records n)
-walked_more rs es count n x h a b =
+walked-at rs es count n x h a b =
     let e = entry_at rs.records n in
     let m = most_readings - (count + 1) in
     let p : most_readings - count ≡ suc m = omega arith in
@@ -58,27 +59,37 @@ walked_more rs es count n x h a b =
           ∙ ap (λ (t : List Entry). x.passed ++ t) (sym (walk-on rs.records m n a b)) ∙ w;
     }
 
+pub walked_more : (rs : Readings) (es : List Entry) (count n : ℕ) → Walked rs es count n → count < most_readings → (k : ℕ) → Some k ≡ index_of n
+    → Walked rs (set es count (entry_at rs.records k)) (count + 1) (next_at rs.records k)
+walked_more rs es count n x h k i =
+    let j = index-in n k i in
+    rw j.0 (walked-at rs es count n x h j.1 j.2)
+
 -- where the walk ends, what is listed is all of it
 module _ (rs : Readings) (es : List Entry) (count n : ℕ) (x : Walked rs es count n) where
-  abbrev listed : Listing
-  listed = record { count = count; entries = es }
+  abbrev listed : ℕ → Listing
+  listed n = record { count = n; entries = es }
 
-  abbrev Ended : Type 0
-  Ended = (listed ≡ listed_of rs) × ((l : List Entry) → Holds rs l → listed ≡ listing l)
+  abbrev Ended : ℕ → Type 0
+  Ended n = (listed n ≡ listed_of rs) × ((l : List Entry) → Holds rs l → listed n ≡ listing l)
 
-  ended : walk (most_readings - count) rs.records n ≡ [] → Ended
+  ended : walk (most_readings - count) rs.records n ≡ [] → Ended count
   ended w =
       let p : x.passed ≡ walk most_readings rs.records (next_at rs.records 0) = sym (append-nil x.passed) ∙ ap (λ (t : List Entry). x.passed ++ t) (sym w) ∙ x.rest in
-      let q : listed ≡ listing x.passed = rw (x.filled, ← x.counted) in
+      let q : listed count ≡ listing x.passed = rw (x.filled, ← x.counted) in
       let e = q ∙ ap listing p in
       (e, λ l y. e ∙ listing-holds rs l y)
 
-  pub walked-zero : n ≡ 0 → Ended
-  walked-zero e = ended (walk-zero rs.records (most_readings - count) n e)
+  pub walked-none : None ≡ index_of n → Ended count
+  walked-none h = go (index-out n h)
+    where
+      go : (n ≡ 0) ⊎ (most_readings < n) → Ended count
+      go (inl e) = ended (walk-zero rs.records (most_readings - count) n e)
+      go (inr l) = ended (walk-out rs.records (most_readings - count) n l)
 
-  pub walked-out : most_readings < n → Ended
-  walked-out h = ended (walk-out rs.records (most_readings - count) n h)
-
-  pub walked_all : most_readings ≤ count → Ended
+  pub walked_all : most_readings ≤ count → Ended most_readings
   unfolding walk
-  walked_all h = let k : most_readings - count ≡ 0 = omega arith in ended (ap (λ (k : ℕ). walk k rs.records n) k)
+  walked_all h =
+      let z : most_readings - count ≡ 0 = omega arith in
+      let e : count ≡ most_readings = omega (arith, x.most) in
+      rw e at (ended (ap (λ (k : ℕ). walk k rs.records n) z))

@@ -1,8 +1,7 @@
 -- What bounds an operation: the frames it sends, the due steps it needs, and the due times it gives. Definitions only.
-use Rattle.std.specs.Prelude.{◌≡◌, ℕ, ◌+◌, ◌<◌, ◌≤◌, Bool, true, false, cond, not, ◌&&◌, List, [], ◌∷◌, nat_lt}
+use Rattle.std.specs.Prelude.{◌≡◌, ℕ, ◌+◌, ◌<◌, ◌≤◌, Bool, true, false, cond, not, ◌&&◌, List, [], ◌∷◌, nat_lt, Result, Ok, Err, ⊤}
+use Rattle.codec.specs.declared.error.Refusal.{Refusal}
 use Rattle.codec.specs.declared.bus.CanFrame.{CanFrame}
-use Rattle.codec.specs.declared.error.Checked.{Checked}
-use Rattle.codec.specs.declared.error.Checked.TheVariants as checked
 use Rattle.codec.specs.declared.model.Model.{Model}
 use Rattle.motor.specs.declared.engine.command.Command.{Command}
 use Rattle.motor.specs.declared.engine.command.Said.{Said}
@@ -49,9 +48,9 @@ sends l (step now) = has_frame (lone_step l now).said
 sends l (frame f now) = false
 sends l other = false
 
-abbrev pub passes : Checked → Bool
-passes checked.Passed = true
-passes (checked.Refused r) = false
+abbrev pub passes : Result ⊤ Refusal → Bool
+passes (Ok tt) = true
+passes (Err r) = false
 
 -- a step that 7 and 21 don't refuse, at or after the last due time given
 abbrev pub is_due : Lone → LoneEvent → Bool
@@ -98,7 +97,7 @@ is_pausing (phase.Waiting w) = false
 -- ---- the theorem
 
 abbrev pub Accepted : Lone → Command → ℕ → Type 0
-Accepted l c now = start_said l.state.clock l.state.operation.phase c now ≡ checked.Passed
+Accepted l c now = start_said l.state.clock l.state.operation.phase c now ≡ Ok tt
 
 -- No operation sends more than 32 frames or needs more than 40 due steps, whatever comes after its start. A step at or after the due time
 -- never answers waiting, save to begin a pause with a later due time. Every due time that a motor gives lies between now and now + 60,000

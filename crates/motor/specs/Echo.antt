@@ -1,6 +1,5 @@
 -- What a reading that is held has to do with the payload that it came in, and with a write of it. Definitions only.
-use Rattle.std.specs.Prelude.{◌≡◌, ℕ, ◌+◌, ◌/◌, ◌%◌, cond, List, [], ◌∷◌, nat_lt, slice_index, slice_index_or}
-use Rattle.codec.specs.declared.protocol.EncodedValue.TheVariants as encoded
+use Rattle.std.specs.Prelude.{◌≡◌, ℕ, ◌+◌, ◌/◌, ◌%◌, cond, List, [], ◌∷◌, nat_lt, slice_index, slice_index_or, Ok}
 use Rattle.codec.specs.declared.protocol.ParameterValue.{ParameterValue}
 use Rattle.codec.specs.declared.registers.ParameterDataType.{ParameterDataType}
 use Rattle.codec.specs.declared.registers.ParameterDataType.TheVariants.{UInt32}
@@ -40,5 +39,5 @@ used_payload payload id kind =
 -- a held reading of a listed parameter is encoded, and its write carries the bytes of its payload that its kind uses, then zeros
 pub record WrittenOut (id : ℕ) (v : ParameterValue) (kind : ParameterDataType) (payload : List ℕ) : Type 0 where
   pub raw : ℕ
-  pub encodes-as : encode_parameter_value id v ≡ encoded.Raw raw
+  pub encodes-as : encode_parameter_value id v ≡ Ok raw
   pub carries : encode_parameter_write id raw ≡ used_payload payload id kind

@@ -1,10 +1,8 @@
 -- The lone motor: what it holds, and what each call and each accepted frame does to it. Definitions only.
-use Rattle.std.specs.Prelude.{ℕ, true, not, List, [], ◌∷◌, ◌++◌}
+use Rattle.std.specs.Prelude.{ℕ, true, not, List, [], ◌∷◌, ◌++◌, Option, Result, Ok, Err, ⊤}
+use Rattle.codec.specs.declared.error.Refusal.{Refusal}
 use Rattle.codec.specs.declared.bus.CanFrame.{CanFrame}
-use Rattle.codec.specs.declared.error.Checked.{Checked}
-use Rattle.codec.specs.declared.error.Checked.TheVariants as checked
 use Rattle.codec.specs.declared.model.Model.{Model}
-use Rattle.codec.specs.declared.model.ModelNamed.{ModelNamed}
 use Rattle.codec.specs.Replies.{zeros}
 use Rattle.motor.specs.declared.engine.command.Command.{Command}
 use Rattle.motor.specs.declared.engine.command.Said.{Said}
@@ -32,7 +30,7 @@ abbrev pub lone_new : ℕ → ℕ → Model → ℕ → ℕ → Lone
 lone_new id host model wait now = record { state = new_state id host model wait now; readings = [] }
 
 -- registration again answers the first of 1, 2, 3, 9, 7, 5 that applies
-abbrev pub lone_again : ℕ → ℕ → ModelNamed → ℕ → ℕ → Checked
+abbrev pub lone_again : ℕ → ℕ → Option Model → ℕ → ℕ → Result ⊤ Refusal
 lone_again id host model wait now = first_of (register_numbers id host model wait now ++ numbered [] ((true, 5) ∷ []))
 
 -- ---- start and step
@@ -62,18 +60,18 @@ lone_moved l now c v =
       result = v.result;
     }
 
-abbrev pub lone_start_by : Checked → Lone → Command → ℕ → LoneAnswered
-lone_start_by checked.Passed l c now = lone_moved l now c (begun_by (sight_of l.state) now c)
-lone_start_by (checked.Refused r) l c now = lone_refused l (said.Refused r)
+abbrev pub lone_start_by : Result ⊤ Refusal → Lone → Command → ℕ → LoneAnswered
+lone_start_by (Ok tt) l c now = lone_moved l now c (begun_by (sight_of l.state) now c)
+lone_start_by (Err r) l c now = lone_refused l (said.Refused r)
 
 abbrev pub lone_start : Lone → Command → ℕ → LoneAnswered
 lone_start l c now = lone_start_by (start_said l.state.clock l.state.operation.phase c now) l c now
 
-abbrev pub lone_step_by : Checked → Lone → ℕ → LoneAnswered
-lone_step_by checked.Passed l now =
+abbrev pub lone_step_by : Result ⊤ Refusal → Lone → ℕ → LoneAnswered
+lone_step_by (Ok tt) l now =
     let op = l.state.operation in
     lone_moved l now l.state.command (advanced (sight_of l.state) now op (wanted op.phase (λ id. lookup id l.readings)) op.phase)
-lone_step_by (checked.Refused r) l now = lone_refused l (said.Refused r)
+lone_step_by (Err r) l now = lone_refused l (said.Refused r)
 
 abbrev pub lone_step : Lone → ℕ → LoneAnswered
 lone_step l now = lone_step_by (step_said l.state.clock l.state.operation.phase now) l now
@@ -82,7 +80,7 @@ lone_step l now = lone_step_by (step_said l.state.clock l.state.operation.phase 
 
 pub record LoneHeard : Type 0 where
   pub lone : Lone
-  pub said : Checked
+  pub said : Result ⊤ Refusal
 
 unfoldable pub hears : Lone → CanFrame → ℕ → LoneHeard
 hears m f now =
@@ -102,5 +100,5 @@ hears m f now =
 abbrev pub lone_look : Lone → Seen
 lone_look l = record { state = l.state; readings = listing l.readings }
 
-abbrev pub lone_removal : Lone → ℕ → Checked
+abbrev pub lone_removal : Lone → ℕ → Result ⊤ Refusal
 lone_removal l now = remove_said l.state.clock l.state.operation.phase now

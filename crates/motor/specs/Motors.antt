@@ -1,7 +1,6 @@
 -- What the motor's functions give on any motor, and what it is for a motor to answer as the lone motor does. Definitions only.
-use Rattle.std.specs.Prelude.{◌≡◌, ℕ, List}
-use Rattle.codec.specs.declared.error.Checked.{Checked}
-use Rattle.codec.specs.declared.error.Checked.TheVariants as checked
+use Rattle.std.specs.Prelude.{◌≡◌, ℕ, List, Result, Ok, Err, ⊤}
+use Rattle.codec.specs.declared.error.Refusal.{Refusal}
 use Rattle.codec.specs.declared.model.Model.{Model}
 use Rattle.codec.specs.Replies.{zeros}
 use Rattle.motor.specs.declared.engine.command.Command.{Command}
@@ -40,18 +39,18 @@ moved_by m now c v =
       result = v.result;
     }
 
-abbrev pub start_by : Checked → Motor → Command → ℕ → Answered
-start_by checked.Passed m c now = moved_by m now c (begun_by (sight_of m.state) now c)
-start_by (checked.Refused r) m c now = refused_of m (said.Refused r)
+abbrev pub start_by : Result ⊤ Refusal → Motor → Command → ℕ → Answered
+start_by (Ok tt) m c now = moved_by m now c (begun_by (sight_of m.state) now c)
+start_by (Err r) m c now = refused_of m (said.Refused r)
 
 abbrev pub start_of : Motor → Command → ℕ → Answered
 start_of m c now = start_by (start_said m.state.clock m.state.operation.phase c now) m c now
 
-abbrev pub step_by : Checked → Motor → ℕ → Answered
-step_by checked.Passed m now =
+abbrev pub step_by : Result ⊤ Refusal → Motor → ℕ → Answered
+step_by (Ok tt) m now =
     let op = m.state.operation in
     moved_by m now m.state.command (advanced (sight_of m.state) now op (wanted op.phase (λ id. find_of m.readings id)) op.phase)
-step_by (checked.Refused r) m now = refused_of m (said.Refused r)
+step_by (Err r) m now = refused_of m (said.Refused r)
 
 abbrev pub step_of : Motor → ℕ → Answered
 step_of m now = step_by (step_said m.state.clock m.state.operation.phase now) m now
@@ -59,7 +58,7 @@ step_of m now = step_by (step_said m.state.clock m.state.operation.phase now) m 
 abbrev pub look_of : Motor → Seen
 look_of m = record { state = m.state; readings = listed_of m.readings }
 
-abbrev pub removal_of : Motor → ℕ → Checked
+abbrev pub removal_of : Motor → ℕ → Result ⊤ Refusal
 removal_of m now = remove_said m.state.clock m.state.operation.phase now
 
 -- ---- the motor answers as the lone motor does

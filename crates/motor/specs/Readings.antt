@@ -1,5 +1,6 @@
 -- Readings: what the 96 records mean, as lists; then what each function gives on any value. Definitions only.
-use Rattle.std.specs.Prelude.{◌≡◌, ℕ, zero, suc, ◌+◌, ◌-◌, ◌<◌, ◌≤◌, Bool, true, false, cond, List, [], ◌∷◌, ◌++◌, map, length, replicate, pos, ◌==◌, nat_lt, slice_index_or, slice_set}
+use Rattle.std.specs.Prelude.{◌≡◌, ℕ, zero, suc, ◌+◌, ◌-◌, ◌<◌, ◌≤◌, Bool, true, false, cond, List, [], ◌∷◌, ◌++◌, map, length, replicate, pos, ◌==◌, nat_lt, slice_index_or, slice_set, Option, Some, None, Ok, Err}
+use Rattle.codec.specs.declared.error.Refusal.TheVariants.{ReadingsFull}
 use Rattle.codec.specs.declared.protocol.ParameterValue.TheVariants.{I8}
 use Rattle.motor.specs.declared.engine.reading.Stored.{Stored}
 use Rattle.motor.specs.declared.readings.Reading.{Reading}
@@ -8,9 +9,6 @@ use Rattle.motor.specs.declared.readings.Site.{Site}
 use Rattle.motor.specs.declared.readings.Entry.{Entry}
 use Rattle.motor.specs.declared.readings.Listing.{Listing}
 use Rattle.motor.specs.declared.readings.PutResult.{PutResult}
-use Rattle.motor.specs.declared.readings.PutAnswer.TheVariants.{Kept, Full}
-use Rattle.motor.specs.declared.engine.reading.Found.{Found}
-use Rattle.motor.specs.declared.engine.reading.Found.TheVariants.{Nothing, Held}
 use Rattle.motor.specs.Limits.{most_readings, most_records}
 
 -- ---- what is held: entries in rising id
@@ -22,9 +20,9 @@ abbrev pub holds : ℕ → List Entry → Bool
 holds id [] = false
 holds id (e ∷ es) = cond (e.id == id) true (holds id es)
 
-abbrev pub lookup : ℕ → List Entry → Found
-lookup id [] = Nothing
-lookup id (e ∷ es) = cond (e.id == id) (Held e.held) (lookup id es)
+abbrev pub lookup : ℕ → List Entry → Option Stored
+lookup id [] = None
+lookup id (e ∷ es) = cond (e.id == id) (Some e.held) (lookup id es)
 
 -- s kept for id: in the place of what was held for it, else before the first greater id
 abbrev pub insert : ℕ → Stored → List Entry → List Entry
@@ -165,7 +163,7 @@ pub record Holds (rs : Readings) (l : List Entry) : Type 0 where
 
 -- what a put answers where the two chains of rs are these lists
 pub record Puts (rs : Readings) (ls : Lists) (id : ℕ) (s : Stored) (r : PutResult) : Type 0 where
-  pub said : r.said ≡ cond (room id (entries ls.held)) Kept Full
+  pub said : r.said ≡ cond (room id (entries ls.held)) (Ok tt) (Err ReadingsFull)
   pub rep : Rep r.readings (put_in id s ls)
   pub full : room id (entries ls.held) ≡ false → r.readings ≡ rs
 
@@ -204,9 +202,9 @@ holder_at records id p =
 abbrev pub holder_of : Readings → ℕ → ℕ
 holder_of rs id = holder_at rs.records id (seek_of rs id)
 
--- whether a record has this number
-unfoldable pub is_record : ℕ → Bool
-is_record n = cond (n == 0) false (cond (nat_lt most_readings n) false true)
+-- the index of the record with this number, 1 to 96
+unfoldable pub index_of : ℕ → Option ℕ
+index_of n = cond (n == 0) None (cond (nat_lt most_readings n) None (Some n))
 
 -- a record's index; the head's for a number that no record has
 unfoldable pub record_index : ℕ → ℕ
@@ -225,14 +223,14 @@ site_of rs id =
       head = rec_at rs.records 0;
     }
 
--- the record at the place of id where it holds id, else 0
-unfoldable pub holder_in : Site → ℕ → ℕ
-holder_in site id = cond (is_record site.next) (cond (site.there.id == id) site.next 0) 0
+-- the index of the record at the place of id, where it holds id
+unfoldable pub holder_in : Site → ℕ → Option ℕ
+holder_in site id = cond (site.there.id == id) (index_of site.next) None
 
-unfoldable pub found_at : Readings → ℕ → Found
-found_at rs n = cond (n == 0) Nothing (Held (rec_at rs.records n).held)
+unfoldable pub found_at : Readings → ℕ → Option Stored
+found_at rs n = cond (n == 0) None (Some (rec_at rs.records n).held)
 
-abbrev pub find_of : Readings → ℕ → Found
+abbrev pub find_of : Readings → ℕ → Option Stored
 find_of rs id = found_at rs (holder_of rs id)
 
 -- x stored as record i, and the first free record
@@ -258,10 +256,10 @@ abbrev pub replaced_at : Readings → ℕ → ℕ → Stored → Readings
 replaced_at rs n id s = stored_at rs n (reading (entry id s) (next_at rs.records n)) rs.free
 
 abbrev pub kept : Readings → PutResult
-kept rs = record { said = Kept; readings = rs }
+kept rs = record { said = Ok tt; readings = rs }
 
 abbrev pub full_of : Readings → PutResult
-full_of rs = record { said = Full; readings = rs }
+full_of rs = record { said = Err ReadingsFull; readings = rs }
 
 unfoldable pub add_at : Readings → ℕ → Stored → ℕ → PutResult
 add_at rs id s q =

@@ -1,9 +1,9 @@
 -- Receiving: what a frame does to what a motor holds, and what it answers. Definitions only.
-use Rattle.std.specs.Prelude.{ℕ, ◌+◌, ◌-◌, ◌*◌, ◌/◌, ◌%◌, ◌^◌, min, Bool, true, false, cond, not, ◌&&◌, ◌||◌, List, [], ◌∷◌, ◌++◌, pos, ◌==◌, nat_lt, slice_index}
+use Rattle.std.specs.Prelude.{ℕ, ◌+◌, ◌-◌, ◌*◌, ◌/◌, ◌%◌, ◌^◌, min, Bool, true, false, cond, not, ◌&&◌, ◌||◌, List, [], ◌∷◌, ◌++◌, pos, ◌==◌, nat_lt, slice_index, Option, Some, Result, Ok, Err, ⊤}
+use Rattle.std.specs.Result.{result_ok}
+use Rattle.codec.specs.declared.faults.FaultReport.{FaultReport}
 use Rattle.codec.specs.declared.bus.CanFrame.{CanFrame}
 use Rattle.codec.specs.declared.error.Refusal.{Refusal}
-use Rattle.codec.specs.declared.error.Checked.{Checked}
-use Rattle.codec.specs.declared.error.Checked.TheVariants.{Passed, Refused}
 use Rattle.codec.specs.declared.model.Model.{Model}
 use Rattle.codec.specs.declared.protocol.IdParts.{IdParts}
 use Rattle.codec.specs.declared.status.StatusFrame.{StatusFrame}
@@ -17,22 +17,17 @@ use Rattle.codec.specs.Replies.{ping_reply_of, is_version_reply, decode_version_
 use Rattle.codec.specs.Values.{decode_read_parameter_value}
 use Rattle.motor.specs.declared.engine.node.Wait.{Wait}
 use Rattle.motor.specs.declared.engine.node.Wait.TheVariants as wait
-use Rattle.motor.specs.declared.engine.operation.HeldPing.{HeldPing}
-use Rattle.motor.specs.declared.engine.operation.HeldVersion.{HeldVersion}
+use Rattle.codec.specs.declared.replies.PingReply.{PingReply}
+use Rattle.codec.specs.declared.replies.VersionReply.{VersionReply}
 use Rattle.motor.specs.declared.engine.operation.Operation.{Operation}
 use Rattle.motor.specs.declared.engine.operation.Phase.{Phase}
 use Rattle.motor.specs.declared.engine.operation.Phase.TheVariants as phase
 use Rattle.motor.specs.declared.feedback.MotorFeedbackState.{MotorFeedbackState}
 use Rattle.motor.specs.declared.feedback.FeedbackCache.{FeedbackCache}
-use Rattle.motor.specs.declared.feedback.Latest.TheVariants as latest
-use Rattle.motor.specs.declared.motor.HeldFault.{HeldFault}
-use Rattle.motor.specs.declared.motor.HeldFault.TheVariants as fault
 use Rattle.motor.specs.declared.motor.State.{State}
 use Rattle.motor.specs.declared.motor.Motor.{Motor}
 use Rattle.motor.specs.declared.engine.reading.Stored.{Stored}
 use Rattle.motor.specs.declared.readings.Readings.{Readings}
-use Rattle.motor.specs.declared.readings.PutAnswer.{PutAnswer}
-use Rattle.motor.specs.declared.readings.PutAnswer.TheVariants.{Kept, Full}
 use Rattle.motor.specs.declared.receive.Arrival.{Arrival}
 use Rattle.motor.specs.declared.receive.Heard.{Heard}
 use Rattle.motor.specs.declared.quiet.StateHeard.{StateHeard}
@@ -62,9 +57,12 @@ accepts_frame id f = accepts_parts id f.is_extended (parts_of f)
 unfoldable pub is_out_of_time : ℕ → ℕ → Bool
 is_out_of_time clock now = nat_lt now clock || nat_lt latest_time now
 
+abbrev pub in_time : ℕ → ℕ → Result ⊤ Refusal
+in_time clock now = first_number ((is_out_of_time clock now, 7) ∷ [])
+
 -- ---- what frames change of the state: the rest of it stays
 
-abbrev pub state_with : State → ℕ → ℕ → FeedbackCache → HeldFault → HeldPing → Operation → State
+abbrev pub state_with : State → ℕ → ℕ → FeedbackCache → Option FaultReport → Option PingReply → Operation → State
 state_with s clock responses feedback fault ping operation =
     record {
       motor_id = s.motor_id;
@@ -86,8 +84,8 @@ unfoldable pub counted_at : State → ℕ → State
 counted_at s now = state_with s now ((s.responses + 1) % 2 ^ 64) s.feedback s.fault_report s.ping_reply s.operation
 
 -- 0: hold the ping reply
-unfoldable pub ping_after : HeldPing → IdParts → List ℕ → HeldPing
-ping_after old p payload = cond (p.comm_type == 0) (record { held = true; reply = ping_reply_of p payload }) old
+unfoldable pub ping_after : Option PingReply → IdParts → List ℕ → Option PingReply
+ping_after old p payload = cond (p.comm_type == 0) (Some (ping_reply_of p payload)) old
 
 -- a status frame's state, with the whole id
 abbrev pub state_in : ℕ → StatusFrame → MotorFeedbackState
@@ -116,15 +114,15 @@ unfoldable pub next_sequence : ℕ → ℕ
 next_sequence n = min (n + 1) (2 ^ 64 - 1)
 
 abbrev pub update : FeedbackCache → MotorFeedbackState → FeedbackCache
-update old state = record { latest = latest.State state; sequence = next_sequence old.sequence }
+update old state = record { latest = Some state; sequence = next_sequence old.sequence }
 
 -- 2 and 24: new feedback
 unfoldable pub feedback_after : FeedbackCache → Model → IdParts → CanFrame → FeedbackCache
 feedback_after old model p f = cond (p.comm_type == 2 || p.comm_type == 24) (update old (feedback_in model p f)) old
 
 -- 21: hold the fault report
-unfoldable pub fault_after : HeldFault → IdParts → List ℕ → HeldFault
-fault_after old p payload = cond (p.comm_type == 21) (fault.Report (decode_fault_report payload)) old
+unfoldable pub fault_after : Option FaultReport → IdParts → List ℕ → Option FaultReport
+fault_after old p payload = cond (p.comm_type == 21) (Some (decode_fault_report payload)) old
 
 -- what types 0, 2, 24 and 21 tell; 25 and 17 nothing here
 unfoldable pub told_by : State → IdParts → CanFrame → State
@@ -150,11 +148,11 @@ abbrev pub is_answer : Phase → CanFrame → Bool
 is_answer p f = is_version_reply f.arbitration_id f.data && awaits_version p
 
 -- that frame's version as the codec decodes it
-unfoldable pub version_in : CanFrame → HeldVersion
-version_in f = record { held = true; reply = (decode_version_reply f.arbitration_id f.data).reply }
+unfoldable pub version_in : CanFrame → Option VersionReply
+version_in f = result_ok (decode_version_reply f.arbitration_id f.data)
 
 -- in place of an earlier one
-abbrev pub with_answer : Operation → HeldVersion → Operation
+abbrev pub with_answer : Operation → Option VersionReply → Operation
 with_answer op answer =
     record {
       phase = op.phase;
@@ -209,24 +207,24 @@ frame_numbers s f now full =
     (frame_tests (accepts_frame s.motor_id f) (is_out_of_time s.clock now)
     ++ ((is_read f && not (read_status f == 0), 14) ∷ (is_read f && full, 15) ∷ []))
 
-unfoldable pub frame_said : State → CanFrame → ℕ → Bool → Checked
+unfoldable pub frame_said : State → CanFrame → ℕ → Bool → Result ⊤ Refusal
 frame_said s f now full = first_of (frame_numbers s f now full)
 
 -- refused other than by 14 or 15, nothing changes; 14 and 15 raise the count and leave what is held
-unfoldable pub state_after : Checked → State → CanFrame → ℕ → State
-state_after Passed s f now = taken_by (counted_at s now) (parts_of f) f
-state_after (Refused r) s f now = cond (among (number_of r) (14 ∷ 15 ∷ [])) (counted_at s now) s
+unfoldable pub state_after : Result ⊤ Refusal → State → CanFrame → ℕ → State
+state_after (Ok tt) s f now = taken_by (counted_at s now) (parts_of f) f
+state_after (Err r) s f now = cond (among (number_of r) (14 ∷ 15 ∷ [])) (counted_at s now) s
 
 -- the new readings where a value was put
-unfoldable pub readings_after : {A : Type 0} → Checked → CanFrame → A → A → A
-readings_after Passed f new old = cond (is_read f) new old
-readings_after (Refused r) f new old = old
+unfoldable pub readings_after : {A : Type 0} → Result ⊤ Refusal → CanFrame → A → A → A
+readings_after (Ok tt) f new old = cond (is_read f) new old
+readings_after (Err r) f new old = old
 
-abbrev pub is_full : PutAnswer → Bool
-is_full Kept = false
-is_full Full = true
+abbrev pub is_full : Result ⊤ Refusal → Bool
+is_full (Ok tt) = false
+is_full (Err r) = true
 
-abbrev pub heard_with : State → Readings → Checked → Heard
+abbrev pub heard_with : State → Readings → Result ⊤ Refusal → Heard
 heard_with state readings said = record { motor = record { state = state; readings = readings }; said = said }
 
 -- the motor's answer, on any value
@@ -238,7 +236,7 @@ process_feedback_frame m f now =
 
 -- ---- the same of a frame whose id is split: 13 and 7
 
-unfoldable pub frame_admitted : ℕ → ℕ → Bool → IdParts → ℕ → Checked
+unfoldable pub frame_admitted : ℕ → ℕ → Bool → IdParts → ℕ → Result ⊤ Refusal
 frame_admitted id clock extended p now = first_number (frame_tests (accepts_parts id extended p) (is_out_of_time clock now))
 
 -- ---- the state alone: a read reply isn't taken, of any other frame there is nothing to be put
@@ -247,11 +245,11 @@ frame_admitted id clock extended p now = first_number (frame_tests (accepts_part
 unfoldable pub is_quiet : Bool → IdParts → Bool
 is_quiet extended p = extended && not (p.comm_type == 17)
 
-abbrev pub state_heard : State → Checked → StateHeard
+abbrev pub state_heard : State → Result ⊤ Refusal → StateHeard
 state_heard state said = record { state = state; said = said }
 
-abbrev pub state_heard_by : Checked → State → CanFrame → ℕ → StateHeard
+abbrev pub state_heard_by : Result ⊤ Refusal → State → CanFrame → ℕ → StateHeard
 state_heard_by said s f now = state_heard (state_after said s f now) said
 
 unfoldable pub hear_state : State → CanFrame → ℕ → StateHeard
-hear_state s f now = cond (is_read f) (state_heard s (Refused (plain 13))) (state_heard_by (frame_said s f now false) s f now)
+hear_state s f now = cond (is_read f) (state_heard s (Err (plain 13))) (state_heard_by (frame_said s f now false) s f now)

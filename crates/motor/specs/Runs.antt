@@ -1,9 +1,8 @@
 -- Whole runs of the lone motor, as examples: inputs with their times, and what is to be answered. Definitions only; the examples
 -- stand in RunsOf files, as tables that antt computes. Their frames and times were worked out from motor.rs, or from document 02.
-use Rattle.std.specs.Prelude.{◌≡◌, ℕ, true, false, List, [], ◌∷◌, map}
+use Rattle.std.specs.Prelude.{◌≡◌, ℕ, true, false, List, [], ◌∷◌, map, Option, Result, Ok, ⊤}
+use Rattle.codec.specs.declared.faults.FaultReport.{FaultReport}
 use Rattle.codec.specs.declared.bus.CanFrame.{CanFrame}
-use Rattle.codec.specs.declared.error.Checked.{Checked}
-use Rattle.codec.specs.declared.error.Checked.TheVariants as checked
 use Rattle.codec.specs.declared.error.Refusal.{Refusal}
 use Rattle.codec.specs.declared.model.Model.{Model}
 use Rattle.codec.specs.declared.protocol.ParameterValue.{ParameterValue}
@@ -14,8 +13,7 @@ use Rattle.motor.specs.declared.engine.command.Outcome.{Outcome}
 use Rattle.motor.specs.declared.engine.command.Said.{Said}
 use Rattle.motor.specs.declared.engine.command.Said.TheVariants as said
 use Rattle.motor.specs.declared.engine.operation.Gains.{Gains}
-use Rattle.motor.specs.declared.engine.operation.HeldVersion.{HeldVersion}
-use Rattle.motor.specs.declared.motor.HeldFault.{HeldFault}
+use Rattle.codec.specs.declared.replies.VersionReply.{VersionReply}
 use Rattle.motor.specs.declared.readings.Entry.{Entry}
 use Rattle.motor.specs.Lone.{Lone, LoneAnswered, lone_new, lone_start, lone_step, hears}
 use Rattle.motor.specs.engine.Requests.{no_frame}
@@ -59,7 +57,7 @@ reply payload now = frame 0x110001FD payload now
 -- to a start or a step: what is said, the frame, the result's bytes; to a frame: accepted, or a number
 pub data Output : Type 0 where
   answered : Said → CanFrame → List ℕ → Output
-  heard : Checked → Output
+  heard : Result ⊤ Refusal → Output
 
 -- a frame as it is sent
 abbrev pub sending : ℕ → List ℕ → CanFrame
@@ -81,7 +79,7 @@ abbrev pub refused : Refusal → Output
 refused r = answered (said.Refused r) no_frame zeros
 
 abbrev pub passed : Output
-passed = heard checked.Passed
+passed = heard (Ok tt)
 
 -- ---- a run
 
@@ -114,10 +112,10 @@ pub data Row : Type 0 where
   run : Lone → List Input → List Output → Row
   number : ℕ → ℕ → Row
   gains : Gains → Gains → Row
-  fault : HeldFault → HeldFault → Row
+  fault : Option FaultReport → Option FaultReport → Row
   readings : List Entry → List Entry → Row
-  removal : Checked → Checked → Row
-  version : HeldVersion → HeldVersion → Row
+  removal : Result ⊤ Refusal → Result ⊤ Refusal → Row
+  version : Option VersionReply → Option VersionReply → Row
 
 -- the row with what is really so
 abbrev pub actual : Row → Row

@@ -1,6 +1,5 @@
 -- ensure_control_mode, as runs that antt computes. Assumes nothing.
-use Rattle.std.specs.Prelude.{ℕ, List, [], ◌∷◌, negsuc, refl}
-use Rattle.codec.specs.declared.error.LastMode.TheVariants as last
+use Rattle.std.specs.Prelude.{ℕ, List, [], ◌∷◌, negsuc, refl, Some, None}
 use Rattle.codec.specs.declared.error.Refusal.TheVariants as refusal
 use Rattle.codec.specs.declared.model.Model.TheVariants.{Rs00}
 use Rattle.codec.specs.declared.registers.ControlMode.TheVariants as mode
@@ -89,7 +88,7 @@ modes =
     ∷ reads 690 0x1100FF01
     ∷ reads 840 0x1100FE01
     ∷ waiting 870
-    ∷ refused (refusal.ModeNotReached (last.Read (negsuc 0)))
+    ∷ refused (refusal.ModeNotReached (Some (negsuc 0)))
     ∷ [])
     -- the first read doesn't count; a disable that failed doesn't end it, and its pause of 60 follows
     ∷ run (fresh 0xFD Rs00 0)
@@ -117,7 +116,7 @@ modes =
     ∷ reads 2250 0x1100FF01
     ∷ reads 2400 0x1100FE01
     ∷ waiting 2430
-    ∷ refused (refusal.ModeNotReached last.Unread)
+    ∷ refused (refusal.ModeNotReached None)
     ∷ [])
     -- nothing comes at all: each write is lost too
     ∷ run (fresh 0xFD Rs00 1)
@@ -143,7 +142,7 @@ modes =
     ∷ writes 2350 0x1200FF01
     ∷ writes 2470 0x1200FE01
     ∷ waiting 2500
-    ∷ refused (refusal.ModeNotReached last.Unread)
+    ∷ refused (refusal.ModeNotReached None)
     ∷ [])
     -- the longest: four candidates, each write acknowledged in its last window, no reply. 32 frames in 39 steps
     ∷ run (fresh 0xFE Rs00 1)
@@ -194,7 +193,7 @@ modes =
     ∷ reads 4660 0x1100FF01
     ∷ reads 4810 0x1100FE01
     ∷ waiting 4840
-    ∷ refused (refusal.ModeNotReached last.Unread)
+    ∷ refused (refusal.ModeNotReached None)
     ∷ [])
     ∷ []
 

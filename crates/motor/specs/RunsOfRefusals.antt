@@ -1,7 +1,6 @@
 -- The numbers of start, step, removal and frame in their order, and the counts at their maximum, as runs that antt computes. Assumes
 -- nothing.
-use Rattle.std.specs.Prelude.{◌-◌, ◌^◌, true, List, [], ◌∷◌, map, pos, refl}
-use Rattle.codec.specs.declared.error.Checked.TheVariants as checked
+use Rattle.std.specs.Prelude.{◌-◌, ◌^◌, true, List, [], ◌∷◌, map, pos, refl, None, Ok, Err}
 use Rattle.codec.specs.declared.error.Refusal.TheVariants as refusal
 use Rattle.codec.specs.declared.model.Model.TheVariants.{Rs00}
 use Rattle.codec.specs.declared.protocol.ParameterValue.TheVariants as value
@@ -9,8 +8,6 @@ use Rattle.codec.specs.Kinds.{among, listed_ids, int8_ids, kind_of, parameter_in
 use Rattle.codec.specs.Replies.{zeros}
 use Rattle.motor.specs.declared.engine.command.Command.TheVariants as command
 use Rattle.motor.specs.declared.engine.command.Outcome.TheVariants as outcome
-use Rattle.motor.specs.declared.feedback.Latest.TheVariants as latest
-use Rattle.motor.specs.declared.motor.HeldFault.TheVariants as held-fault
 use Rattle.motor.specs.Calls.{new_state, no_ping}
 use Rattle.motor.specs.Lone.{Lone, hears, lone_removal}
 use Rattle.motor.specs.Readings as chain
@@ -75,9 +72,9 @@ refusals =
     ∷ run (fresh 0xFD Rs00 0) (start (command.SetActiveReport true) 1000000000000000 ∷ [])
     (finished_with outcome.Done 0x1800FD01 (bytes 1 2 3 4 5 6 1 0) ∷ [])
     -- removal: 7, 8
-    ∷ removal (lone_removal (after_inputs (fresh 0xFD Rs00 0) (start command.Enable 100 ∷ [])) 99) (checked.Refused refusal.TimeOutOfRange)
-    ∷ removal (lone_removal (after_inputs (fresh 0xFD Rs00 0) (start command.Enable 100 ∷ [])) 110) (checked.Refused refusal.OperationRunning)
-    ∷ removal (lone_removal (fresh 0xFD Rs00 0) 100) checked.Passed
+    ∷ removal (lone_removal (after_inputs (fresh 0xFD Rs00 0) (start command.Enable 100 ∷ [])) 99) (Err refusal.TimeOutOfRange)
+    ∷ removal (lone_removal (after_inputs (fresh 0xFD Rs00 0) (start command.Enable 100 ∷ [])) 110) (Err refusal.OperationRunning)
+    ∷ removal (lone_removal (fresh 0xFD Rs00 0) 100) (Ok tt)
     ∷ []
 
 pub refusals-hold : RowsHold refusals
@@ -94,7 +91,7 @@ filled = record { state = new_state 1 0xFD Rs00 0 100; readings = map (λ n. hel
 abbrev pub counted-out : Lone
 counted-out =
     record {
-      state = state_with (new_state 1 0xFD Rs00 0 100) 100 (2 ^ 64 - 1) (record { latest = latest.Nothing; sequence = 2 ^ 64 - 1 }) held-fault.Nothing no_ping no_operation;
+      state = state_with (new_state 1 0xFD Rs00 0 100) 100 (2 ^ 64 - 1) (record { latest = None; sequence = 2 ^ 64 - 1 }) None no_ping no_operation;
       readings = [];
     }
 
@@ -102,14 +99,14 @@ abbrev pub frames : List Row
 frames =
     -- 13 before 7 before 14
     run (fresh 0xFD Rs00 0) (frame 0x020002FD zeros 99 ∷ frame 0x110101FD (bytes 5 0x70 0 0 2 0 0 0) 99 ∷ frame 0x110101FD (bytes 5 0x70 0 0 2 0 0 0) 110 ∷ [])
-    (heard (checked.Refused refusal.FrameNotAccepted)
-    ∷ heard (checked.Refused refusal.TimeOutOfRange)
-    ∷ heard (checked.Refused (refusal.ReadFailed 0x7005 1))
+    (heard (Err refusal.FrameNotAccepted)
+    ∷ heard (Err refusal.TimeOutOfRange)
+    ∷ heard (Err (refusal.ReadFailed 0x7005 1))
     ∷ [])
     -- 14 before 15; an id that is held has room
     ∷ run filled
     (frame 0x110101FD (bytes 5 0x70 0 0 2 0 0 0) 110 ∷ reply (bytes 5 0x70 0 0 2 0 0 0) 120 ∷ reply (bytes 7 0 0 0 2 0 0 0) 130 ∷ [])
-    (heard (checked.Refused (refusal.ReadFailed 0x7005 1)) ∷ heard (checked.Refused refusal.ReadingsFull) ∷ passed ∷ [])
+    (heard (Err (refusal.ReadFailed 0x7005 1)) ∷ heard (Err refusal.ReadingsFull) ∷ passed ∷ [])
     -- 14 leaves the value held; 14 and 15 raise the count and move the clock
     ∷ readings (after_inputs (fresh 0xFD Rs00 0) (reply (bytes 5 0x70 0 0 2 0 0 0) 110 ∷ frame 0x110101FD (bytes 5 0x70 0 0 3 0 0 0) 120 ∷ [])).readings
     (held 0x7005 (value.I8 (pos 2)) ∷ [])

@@ -1,6 +1,5 @@
 -- Whole runs of get_version (document 02, T-01), worked out by hand from its sentences, as one table that antt computes.
-use Rattle.std.specs.Prelude.{ℕ, true, List, [], ◌∷◌, refl}
-use Rattle.codec.specs.declared.error.Checked.TheVariants as checked
+use Rattle.std.specs.Prelude.{ℕ, List, [], ◌∷◌, refl, Err, Some}
 use Rattle.codec.specs.declared.error.Refusal.TheVariants as refusal
 use Rattle.codec.specs.declared.model.Model.TheVariants.{Rs00}
 use Rattle.codec.specs.Kinds.{among}
@@ -47,7 +46,7 @@ versions =
     ∷ run (fresh 0xFD Rs00 0) (asking (step 339 ∷ step 340 ∷ [])) (asked ∷ waiting 340 ∷ refused refusal.WindowsGone ∷ [])
     -- a status is no answer, and feedback as ever; another motor's answer isn't accepted
     ∷ run (fresh 0xFD Rs00 0) (asking (status 120 ∷ frame 0x020002FD (bytes 0 0xC4 0x56 1 2 3 4 0) 130 ∷ step 340 ∷ []))
-    (asked ∷ passed ∷ heard (checked.Refused refusal.FrameNotAccepted) ∷ refused refusal.WindowsGone ∷ [])
+    (asked ∷ passed ∷ heard (Err refusal.FrameNotAccepted) ∷ refused refusal.WindowsGone ∷ [])
     -- an answer is counted and moves the clock, and the sequence stays; a status in between raises it
     ∷ number (after_inputs (fresh 0xFD Rs00 0) (asking (told 1 2 3 4 120 ∷ told 5 6 7 8 140 ∷ []))).state.responses 2
     ∷ number (after_inputs (fresh 0xFD Rs00 0) (asking (told 1 2 3 4 120 ∷ []))).state.clock 120
@@ -55,7 +54,7 @@ versions =
     ∷ number (after_inputs (fresh 0xFD Rs00 0) (asking (status 120 ∷ told 1 2 3 4 140 ∷ []))).state.feedback.sequence 1
     -- a look shows the answer so far; a start has none, and it is gone when the operation ends
     ∷ version (after_inputs (fresh 0xFD Rs00 0) (asking (told 1 2 3 4 120 ∷ told 5 6 7 8 140 ∷ []))).state.operation.answer
-    (record { held = true; reply = record { device_id = 1; version = 5 ∷ 6 ∷ 7 ∷ 8 ∷ [] } })
+    (Some (record { device_id = 1; version = 5 ∷ 6 ∷ 7 ∷ 8 ∷ [] }))
     ∷ version (after_inputs (fresh 0xFD Rs00 0) (asking [])).state.operation.answer no_version
     ∷ version (after_inputs (fresh 0xFD Rs00 0) (asking (told 1 2 3 4 120 ∷ step 120 ∷ []))).state.operation.answer no_version
     -- the next get_version doesn't have it

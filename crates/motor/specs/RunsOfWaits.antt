@@ -1,6 +1,5 @@
 -- Windows, candidates, marks, deadlines, reads and pings, as runs that antt computes. Assumes nothing.
-use Rattle.std.specs.Prelude.{true, false, List, [], ◌∷◌, pos, refl}
-use Rattle.codec.specs.declared.error.Checked.TheVariants as checked
+use Rattle.std.specs.Prelude.{true, false, List, [], ◌∷◌, pos, refl, Err, Some, None}
 use Rattle.codec.specs.declared.error.Refusal.TheVariants as refusal
 use Rattle.codec.specs.declared.model.Model.TheVariants.{Rs00}
 use Rattle.codec.specs.declared.protocol.ParameterValue.TheVariants as value
@@ -12,7 +11,6 @@ use Rattle.codec.specs.Replies.{zeros}
 use Rattle.motor.specs.declared.engine.command.Command.TheVariants as command
 use Rattle.motor.specs.declared.engine.command.Outcome.TheVariants as outcome
 use Rattle.motor.specs.declared.engine.command.Said.TheVariants as said
-use Rattle.motor.specs.declared.motor.HeldFault.TheVariants as held-fault
 use Rattle.motor.specs.engine.Hosts.{host_candidates}
 use Rattle.motor.specs.Lone.{hears}
 use Rattle.motor.specs.Receive.{accepts_frame, is_out_of_time, counted_at, ping_after, next_sequence, feedback_after, fault_after, told_by, is_read, read_status, read_id, read_stored, frame_said, state_after, readings_after}
@@ -51,7 +49,7 @@ acknowledgements =
     (sent 600 0x1600FD01 (bytes 1 2 3 4 5 6 7 8) ∷ waiting 600 ∷ passed ∷ finished outcome.Done ∷ [])
     -- and with a frame refused by 14
     ∷ run (fresh 0xFD Rs00 0) (start command.SaveParameters 100 ∷ frame 0x110101FD (bytes 5 0x70 0 0 2 0 0 0) 120 ∷ step 120 ∷ [])
-    (sent 600 0x1600FD01 (bytes 1 2 3 4 5 6 7 8) ∷ heard (checked.Refused (refusal.ReadFailed 0x7005 1)) ∷ finished outcome.Done ∷ [])
+    (sent 600 0x1600FD01 (bytes 1 2 3 4 5 6 7 8) ∷ heard (Err (refusal.ReadFailed 0x7005 1)) ∷ finished outcome.Done ∷ [])
     -- set_protocol: with timeout 0 from the call, with 1 a window of 120
     ∷ run (fresh 0xFD Rs00 0) (start (command.SetProtocol 2 0) 100 ∷ [])
     (finished_with outcome.Done 0x1900FD01 (bytes 1 2 3 4 5 6 2 0) ∷ [])
@@ -65,9 +63,9 @@ acknowledgements =
     (sent 340 0x0400FD01 (bytes 1 0 0 0 0 0 0 0) ∷ passed ∷ finished outcome.Done ∷ [])
     -- it drops the fault report once acknowledged
     ∷ fault (after_inputs (fresh 0xFD Rs00 0) (frame 0x150001FD zeros 100 ∷ start command.ClearError 120 ∷ status 140 ∷ [])).state.fault_report
-    (held-fault.Report (decode_fault_report zeros))
+    (Some (decode_fault_report zeros))
     ∷ fault (after_inputs (fresh 0xFD Rs00 0) (frame 0x150001FD zeros 100 ∷ start command.ClearError 120 ∷ status 140 ∷ step 140 ∷ [])).state.fault_report
-    held-fault.Nothing
+    None
     -- set_active_report, with finished from the call
     ∷ run (fresh 0xFD Rs00 0) (start (command.SetActiveReport true) 100 ∷ start (command.SetActiveReport false) 100 ∷ [])
     (finished_with outcome.Done 0x1800FD01 (bytes 1 2 3 4 5 6 1 0) ∷ finished_with outcome.Done 0x1800FD01 (bytes 1 2 3 4 5 6 0 0) ∷ [])

@@ -1,11 +1,11 @@
 -- get_version (document 02, T-01): where its answer comes from, that the codec doesn't refuse it there, and that the rule holds within its
 -- wait alone. Definitions only.
-use Rattle.std.specs.Prelude.{◌≡◌, ℕ, true, false, List}
+use Rattle.std.specs.Prelude.{◌≡◌, ℕ, true, false, List, Some, Ok}
 use Rattle.codec.specs.declared.bus.CanFrame.{CanFrame}
-use Rattle.codec.specs.declared.error.Checked.TheVariants as checked
 use Rattle.codec.specs.declared.model.Model.{Model}
 use Rattle.codec.specs.declared.replies.VersionReply.{VersionReply}
-use Rattle.codec.specs.Replies.{is_version_reply, passed_version, decode_version_reply}
+use Rattle.codec.specs.Numbers.{said_in}
+use Rattle.codec.specs.Replies.{is_version_reply, decode_version_reply}
 use Rattle.motor.specs.declared.engine.command.Command.{Command}
 use Rattle.motor.specs.declared.engine.command.Outcome.TheVariants as outcome
 use Rattle.motor.specs.declared.engine.command.Said.TheVariants as said
@@ -20,16 +20,16 @@ use Rattle.motor.specs.engine.Run.{no_version, version_reported}
 -- a version reply, and what decode_version_reply gives of it: passed, not 23
 pub record Told (f : CanFrame) (reply : VersionReply) : Type 0 where
   pub is-reply : is_version_reply f.arbitration_id f.data ≡ true
-  pub decoded : decode_version_reply f.arbitration_id f.data ≡ passed_version reply
+  pub decoded : decode_version_reply f.arbitration_id f.data ≡ Ok reply
 
 -- what an operation has as its answer: none, or a version reply's while it waits for one
 pub data AnswerIn (op : Operation) : Type 0 where
   none : op.answer ≡ no_version → AnswerIn op
-  from : (f : CanFrame) → awaits_version op.phase ≡ true → op.answer.held ≡ true → Told f op.answer.reply → AnswerIn op
+  from : (f : CanFrame) (reply : VersionReply) → awaits_version op.phase ≡ true → op.answer ≡ Some reply → Told f reply → AnswerIn op
 
 pub record Versions : Type 0 where
   -- decode_version_reply can't answer 23 of an answer
-  pub never-23 : (p : Phase) (f : CanFrame) → is_answer p f ≡ true → (decode_version_reply f.arbitration_id f.data).said ≡ checked.Passed
+  pub never-23 : (p : Phase) (f : CanFrame) → is_answer p f ≡ true → said_in (decode_version_reply f.arbitration_id f.data) ≡ Ok tt
   -- a start has none
   pub started : (l : Lone) (c : Command) (now : ℕ) → Accepted l c now → (lone_start l c now).lone.state.operation.answer ≡ no_version
   -- whatever has come before: outside the wait nothing of it is held, and within it what a version reply told

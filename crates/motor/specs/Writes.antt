@@ -1,10 +1,9 @@
 -- Every write: what the frames of starts and steps are, and that each write among them is of a value that the encoder takes. Definitions
 -- only.
-use Rattle.std.specs.Prelude.{◌≡◌, ℕ, List}
+use Rattle.std.specs.Prelude.{◌≡◌, ℕ, List, Ok}
 use Rattle.codec.specs.declared.bus.CanFrame.{CanFrame}
 use Rattle.codec.specs.declared.model.Model.{Model}
 use Rattle.codec.specs.declared.motion.MitCommand.{MitCommand}
-use Rattle.codec.specs.declared.protocol.EncodedValue.TheVariants as encoded
 use Rattle.codec.specs.declared.protocol.ParameterValue.{ParameterValue}
 use Rattle.codec.specs.Values.{encode_parameter_value}
 use Rattle.motor.specs.declared.engine.command.Command.{Command}
@@ -24,7 +23,7 @@ AsEncoded request.Disable = Unit {0}
 AsEncoded request.ClearError = Unit {0}
 AsEncoded request.SetZeroPosition = Unit {0}
 AsEncoded (request.Read id) = Unit {0}
-AsEncoded (request.Write id raw) = (v : ParameterValue) × (encode_parameter_value id v ≡ encoded.Raw raw)
+AsEncoded (request.Write id raw) = (v : ParameterValue) × (encode_parameter_value id v ≡ Ok raw)
 AsEncoded request.SaveParameters = Unit {0}
 AsEncoded (request.ActiveReport on) = Unit {0}
 AsEncoded (request.SetProtocol protocol) = Unit {0}

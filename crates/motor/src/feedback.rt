@@ -25,20 +25,15 @@ pub struct MotorFeedbackState {
     pub undervoltage: bool,
 }
 
-#[derive(Clone, Copy)]
-pub enum Latest {
-    Nothing,
-    State(MotorFeedbackState),
-}
-
 // The latest state, and the sequence: a number that rises with each and stays at its maximum.
 #[derive(Clone, Copy)]
 pub struct FeedbackCache {
-    pub latest: Latest,
+    pub latest: Option<MotorFeedbackState>,
     pub sequence: u64,
 }
 
 // What a status frame tells, by the model's limits.
+#[tactic(auto, unfolding(crate::specs::Receive::feedback_in))]
 pub(crate) fn feedback_in(model: Model, parts: IdParts, frame: CanFrame) -> MotorFeedbackState
     ensures { result ≡ feedback_in model parts frame }
 {
@@ -63,13 +58,11 @@ pub(crate) fn feedback_in(model: Model, parts: IdParts, frame: CanFrame) -> Moto
 }
 
 // One more, up to the maximum.
+#[tactic(auto, unfolding(crate::specs::Receive::next_sequence))]
 fn next_sequence(n: u64) -> u64
     ensures { result ≡ next_sequence n }
 {
-    if u64::MAX <= n {
-        return n;
-    }
-    n + 1
+    n.saturating_add(1)
 }
 
 // A new state, and the next sequence.
@@ -77,7 +70,7 @@ pub(crate) fn update(cache: FeedbackCache, state: MotorFeedbackState) -> Feedbac
     ensures { result ≡ update cache state }
 {
     FeedbackCache {
-        latest: Latest::State(state),
+        latest: Some(state),
         sequence: next_sequence(cache.sequence),
     }
 }

@@ -1,35 +1,30 @@
 // One motor by value: made, started, stepped, looked at, and asked whether it may be removed.
 ghost use Rattle.std.specs.Prelude.{◌≡◌, List, []};
 ghost use Rattle.motor.specs.declared.engine.command.Said.TheVariants as said;
-ghost use Rattle.motor.specs.Calls.{is_idle, start_admitted, start_said, step_said, new_state, wanted, wanted_by};
+ghost use Rattle.motor.specs.Calls.{is_idle, start_admitted, start_said, step_said, remove_said, new_state, wanted};
 ghost use Rattle.motor.specs.Lone.{lone_start, lone_step, lone_look};
 ghost use Rattle.motor.specs.Motors.{new_motor, refused_of, moved_by, start_of, step_of, look_of, removal_of, lone_of, AnsweredAs};
 ghost use Rattle.motor.specs.Readings.{Holds, find_of};
 
 use crate::arguments::{argued, timeout_of};
-use crate::effects::{no_ping, readings_by, sight_of, state_by};
+use crate::effects::{readings_by, sight_of, state_by};
 use crate::engine::command::{Command, Said};
 use crate::engine::moves::no_operation;
 use crate::engine::node::Wait;
-use crate::engine::operation::{Gains, HeldPing, Move, Operation, Phase};
-use crate::engine::reading::Found;
+use crate::engine::operation::{Gains, Move, Operation, Phase};
+use crate::engine::reading::Stored;
 use crate::engine::requests::no_frame;
 use crate::engine::run::{advance_at, begin_at};
-use crate::feedback::{FeedbackCache, Latest};
+use crate::feedback::FeedbackCache;
 use crate::limits::LONGEST;
 use crate::readings::{Entry, Listing, Readings, empty, find, listed};
-use crate::receive::is_out_of_time;
+use crate::receive::in_time;
 use codec::bus::CanFrame;
-use codec::error::{Checked, Refusal};
+use codec::error::Refusal;
 use codec::faults::FaultReport;
 use codec::model::Model;
+use codec::replies::PingReply;
 use codec::word::Word;
-
-#[derive(Clone, Copy)]
-pub enum HeldFault {
-    Nothing,
-    Report(FaultReport),
-}
 
 // All that a motor holds but its readings. As registered: id, host, model and write wait. Then clock, response count, feedback
 // with its sequence, gains, fault report, ping reply, and the running operation with its command.
@@ -43,8 +38,8 @@ pub struct State {
     pub responses: u64,
     pub feedback: FeedbackCache,
     pub gains: Gains,
-    pub fault_report: HeldFault,
-    pub ping_reply: HeldPing,
+    pub fault_report: Option<FaultReport>,
+    pub ping_reply: Option<PingReply>,
     pub operation: Operation,
     pub command: Command,
 }
@@ -78,10 +73,6 @@ fn new_state(motor_id: u16, feedback_id: u16, model: Model, write_wait: u64, now
     ensures { result ≡ new_state motor_id feedback_id model write_wait now }
 {
     let zero = Word { bits: 0 };
-    let feedback = FeedbackCache {
-        latest: Latest::Nothing,
-        sequence: 0,
-    };
     State {
         motor_id,
         feedback_id,
@@ -89,10 +80,13 @@ fn new_state(motor_id: u16, feedback_id: u16, model: Model, write_wait: u64, now
         write_wait,
         clock: now,
         responses: 0,
-        feedback,
+        feedback: FeedbackCache {
+            latest: None,
+            sequence: 0,
+        },
         gains: Gains { kp: zero, kd: zero },
-        fault_report: HeldFault::Nothing,
-        ping_reply: no_ping(),
+        fault_report: None,
+        ping_reply: None,
         operation: no_operation(),
         command: Command::Ping(0),
     }
@@ -103,9 +97,10 @@ pub fn new(motor_id: u16, feedback_id: u16, model: Model, write_wait: u64, now: 
     ensures is { result ≡ new_motor motor_id feedback_id model write_wait now }
     ensures means { Holds result.readings [] }
 {
-    let state = new_state(motor_id, feedback_id, model, write_wait, now);
-    let readings = empty();
-    Motor { state, readings }
+    Motor {
+        state: new_state(motor_id, feedback_id, model, write_wait, now),
+        readings: empty(),
+    }
 }
 
 // ---- what a move changes
@@ -114,20 +109,15 @@ pub fn new(motor_id: u16, feedback_id: u16, model: Model, write_wait: u64, now: 
 fn moved_by(m: Motor, now: u64, command: Command, made: Move) -> Answered
     ensures { result ≡ moved_by m now command made }
 {
-    let state = m.state;
-    let readings = m.readings;
-    let said = made.said;
-    let frame = made.frame;
+    let motor = Motor {
+        state: state_by(m.state, now, command, made.operation, made.effect),
+        readings: readings_by(made.effect, m.readings),
+    };
     let result = made.result;
-    let operation = made.operation;
-    let effect = made.effect;
-    let state = state_by(state, now, command, operation, effect);
-    let readings = readings_by(effect, readings);
-    let motor = Motor { state, readings };
     Answered {
         motor,
-        said,
-        frame,
+        said: made.said,
+        frame: made.frame,
         result,
     }
 }
@@ -150,36 +140,36 @@ fn refused(m: Motor, refusal: Refusal) -> Answered
 fn is_idle(phase: Phase) -> bool
     ensures { result ≡ is_idle phase }
 {
-    match phase {
-        Phase::Idle => true,
-        Phase::Pausing(_) => false,
-        Phase::Waiting(_) => false,
+    matches!(phase, Phase::Idle)
+}
+
+// 7, 8: an operation that runs.
+fn idle_at(clock: u64, phase: Phase, now: u64) -> Result<(), Refusal>
+    ensures { result ≡ remove_said clock phase now }
+{
+    in_time(clock, now)?;
+    if !is_idle(phase) {
+        return Err(Refusal::OperationRunning);
     }
+    Ok(())
 }
 
 // 7, 8, 9.
-fn start_admitted(clock: u64, phase: Phase, command: Command, now: u64) -> Checked
+fn start_admitted(clock: u64, phase: Phase, command: Command, now: u64) -> Result<(), Refusal>
     ensures { result ≡ start_admitted clock phase command now }
 {
-    if is_out_of_time(clock, now) {
-        return Checked::Refused(Refusal::TimeOutOfRange);
-    }
-    if !is_idle(phase) {
-        return Checked::Refused(Refusal::OperationRunning);
-    }
+    idle_at(clock, phase, now)?;
     if timeout_of(command) > LONGEST {
-        return Checked::Refused(Refusal::TimeoutTooLong);
+        return Err(Refusal::TimeoutTooLong);
     }
-    Checked::Passed
+    Ok(())
 }
 
 // 7, 8, 9, then 2, 19, 12, 10, 11.
-fn start_said(clock: u64, phase: Phase, command: Command, now: u64) -> Checked
+fn start_said(clock: u64, phase: Phase, command: Command, now: u64) -> Result<(), Refusal>
     ensures { result ≡ start_said clock phase command now }
 {
-    if let Checked::Refused(refusal) = start_admitted(clock, phase, command, now) {
-        return Checked::Refused(refusal);
-    }
+    start_admitted(clock, phase, command, now)?;
     argued(command)
 }
 
@@ -189,9 +179,7 @@ pub fn start(m: Motor, command: Command, now: u64) -> Answered
     ensures means { (l : List Entry) → Holds m.readings l → AnsweredAs result (lone_start (lone_of m l) command now) }
 {
     let state = m.state;
-    let operation = state.operation;
-    let phase = operation.phase;
-    if let Checked::Refused(refusal) = start_said(state.clock, phase, command, now) {
+    if let Err(refusal) = start_said(state.clock, state.operation.phase, command, now) {
         return refused(m, refusal);
     }
     let made = begin_at(sight_of(state), now, command);
@@ -201,37 +189,23 @@ pub fn start(m: Motor, command: Command, now: u64) -> Answered
 // ---- step
 
 // 7, 21.
-fn step_said(clock: u64, phase: Phase, now: u64) -> Checked
+fn step_said(clock: u64, phase: Phase, now: u64) -> Result<(), Refusal>
     ensures { result ≡ step_said clock phase now }
 {
-    if is_out_of_time(clock, now) {
-        return Checked::Refused(Refusal::TimeOutOfRange);
-    }
+    in_time(clock, now)?;
     if is_idle(phase) {
-        return Checked::Refused(Refusal::NothingRunning);
+        return Err(Refusal::NothingRunning);
     }
-    Checked::Passed
+    Ok(())
 }
 
 // The reading that a wait looks for.
-fn wanted_in(readings: Readings, wait: Wait) -> Found
-    ensures { result ≡ wanted_by wait (λ id. find_of readings id) }
-{
-    match wait {
-        Wait::Acknowledged(_, _, _) => Found::Nothing,
-        Wait::Value(id, _) => find(readings, id),
-        Wait::Ping(_) => Found::Nothing,
-        Wait::Version => Found::Nothing,
-    }
-}
-
-fn wanted_at(readings: Readings, phase: Phase) -> Found
+fn wanted_at(readings: Readings, phase: Phase) -> Option<Stored>
     ensures { result ≡ wanted phase (λ id. find_of readings id) }
 {
     match phase {
-        Phase::Idle => Found::Nothing,
-        Phase::Pausing(_) => Found::Nothing,
-        Phase::Waiting(wait) => wanted_in(readings, wait),
+        Phase::Waiting(Wait::Value(id, _)) => find(readings, id),
+        _ => None,
     }
 }
 
@@ -241,16 +215,13 @@ pub fn step(m: Motor, now: u64) -> Answered
     ensures means { (l : List Entry) → Holds m.readings l → AnsweredAs result (lone_step (lone_of m l) now) }
 {
     let state = m.state;
-    let readings = m.readings;
     let operation = state.operation;
-    let phase = operation.phase;
-    let command = state.command;
-    if let Checked::Refused(refusal) = step_said(state.clock, phase, now) {
+    if let Err(refusal) = step_said(state.clock, operation.phase, now) {
         return refused(m, refusal);
     }
-    let found = wanted_at(readings, phase);
+    let found = wanted_at(m.readings, operation.phase);
     let made = advance_at(sight_of(state), now, operation, found);
-    moved_by(m, now, command, made)
+    moved_by(m, now, state.command, made)
 }
 
 // ---- look and removal
@@ -260,24 +231,15 @@ pub fn look(m: Motor) -> Seen
     ensures is { result ≡ look_of m }
     ensures means { (l : List Entry) → Holds m.readings l → result ≡ lone_look (lone_of m l) }
 {
-    let state = m.state;
-    let readings = m.readings;
-    let readings = listed(readings);
-    Seen { state, readings }
+    Seen {
+        state: m.state,
+        readings: listed(m.readings),
+    }
 }
 
 // Whether the motor may be removed: 7, 8.
-pub fn removal(m: Motor, now: u64) -> Checked
+pub fn removal(m: Motor, now: u64) -> Result<(), Refusal>
     ensures { result ≡ removal_of m now }
 {
-    let state = m.state;
-    let operation = state.operation;
-    let phase = operation.phase;
-    if is_out_of_time(state.clock, now) {
-        return Checked::Refused(Refusal::TimeOutOfRange);
-    }
-    if !is_idle(phase) {
-        return Checked::Refused(Refusal::OperationRunning);
-    }
-    Checked::Passed
+    idle_at(m.state.clock, m.state.operation.phase, now)
 }

@@ -1,11 +1,12 @@
 // Readings: what a motor keeps for each parameter, in 96 records that form two chains.
-ghost use Rattle.std.specs.Prelude.{◌≡◌, ◌<◌, ◌≤◌, List};
+ghost use Rattle.std.specs.Prelude.{◌≡◌, ◌<◌, ◌≤◌, List, IfSome};
 ghost use Rattle.motor.specs.Limits.{most_readings, most_records};
-ghost use Rattle.motor.specs.Readings.{Lists, Rep, Holds, Puts, at_first, lookup, drop_in, listing, blank_stored, free_record, with_next, record_index, is_record, site_of, holder_in, empty_readings, find_of, put_of, drop_id, listed_of};
+ghost use Rattle.motor.specs.Readings.{Lists, Rep, Holds, Puts, at_first, lookup, drop_in, listing, blank_stored, free_record, record_index, index_of, seek_of, site_of, holder_in, empty_readings, find_of, put_of, drop_id, listed_of};
 
 use crate::edits::{edited_by, put_edit};
-use crate::engine::reading::{Found, Stored};
+use crate::engine::reading::Stored;
 use crate::limits::{ENTRIES, READINGS, RECORDS};
+use codec::error::Refusal;
 use codec::protocol::ParameterValue;
 
 // A record. The next of the last one is 0.
@@ -17,22 +18,17 @@ pub struct Reading {
 }
 
 // Slot 0 is the head: its next is the first record held. A record's number is its index.
+// Chained by number in an array since memory is fixed (no heap); Rep and Holds of specs/Readings name these records.
 #[derive(Clone, Copy)]
 pub struct Readings {
     pub records: [Reading; RECORDS],
     pub free: u16,
 }
 
-// Full is 15: 96 others are held and the id is new.
-#[derive(Clone, Copy)]
-pub enum PutAnswer {
-    Kept,
-    Full,
-}
-
+// What a put answers, 15 where 96 others are held and the id is new, and the readings after it.
 #[derive(Clone, Copy)]
 pub struct PutResult {
-    pub said: PutAnswer,
+    pub said: Result<(), Refusal>,
     pub readings: Readings,
 }
 
@@ -43,6 +39,7 @@ pub struct Entry {
 }
 
 // What is held, along the chain; the entries past count are blank.
+// A count beside an array since memory is fixed (no heap); `listing` of specs/Readings says what each place has.
 #[derive(Clone, Copy)]
 pub struct Listing {
     pub count: u16,
@@ -53,16 +50,20 @@ pub struct Listing {
 fn blank() -> Stored
     ensures { result ≡ blank_stored }
 {
-    let value = ParameterValue::I8(0);
-    Stored { value }
+    Stored {
+        value: ParameterValue::I8(0),
+    }
 }
 
 // A record that holds nothing.
 fn free_record(next: u16) -> Reading
     ensures { result ≡ free_record next }
 {
-    let held = blank();
-    Reading { id: 0, held, next }
+    Reading {
+        id: 0,
+        held: blank(),
+        next,
+    }
 }
 
 // Nothing held, and the free records chained from 1 to 96.
@@ -70,23 +71,19 @@ pub fn empty() -> Readings
     ensures is { result ≡ empty_readings }
     ensures means { Rep result at_first }
 {
-    let last = free_record(0);
-    let mut records = [last; RECORDS];
-    let mut i: u16 = 1;
-    while i < READINGS {
-        let at = i as usize;
-        let record = free_record(i + 1);
-        records[at] = record;
-        i += 1;
+    let mut records = [free_record(0); RECORDS];
+    for i in 1..READINGS {
+        records[i as usize] = free_record(i + 1);
     }
     Readings { records, free: 1 }
 }
 
 // The place of an id in the chain: the record before it, 0 for the head, where that one goes on, and the record there; the first
 // free record, and where it goes on; the head.
+// The bound of `before` is a clause of site_of: as a ghost field, the definition of site_of would have to hold its proof.
 #[derive(Clone, Copy)]
 pub(crate) struct Site {
-    pub before: u16,
+    pub before: usize,
     pub next: u16,
     pub there: Reading,
     pub free: u16,
@@ -94,108 +91,82 @@ pub(crate) struct Site {
     pub head: Reading,
 }
 
+// The index of the record with this number, 1 to 96.
+#[tactic(auto, unfolding(crate::specs::Readings::index_of))]
+pub(crate) fn index_of(n: u16) -> Option<usize>
+    ensures is { result ≡ index_of n }
+    ensures inside { IfSome result (λ k. k < most_records) }
+{
+    match n {
+        1..=READINGS => Some(n as usize),
+        _ => None,
+    }
+}
+
 // A record's index; the head's for a number that no record has.
+#[tactic(auto, unfolding(crate::specs::Readings::index_of, crate::specs::Readings::record_index))]
 fn record_index(n: u16) -> usize
     ensures { (result ≡ record_index n) × (result < most_records) }
 {
-    if READINGS < n {
-        return 0;
-    }
-    n as usize
+    index_of(n).unwrap_or(0)
 }
 
-// Whether a record has this number.
-pub(crate) fn is_record(n: u16) -> bool
-    ensures { result ≡ is_record n }
+// The record before the place of id, 0 for the head. The readings are lent, since a call that takes them by value copies them.
+fn seek(rs: &Readings, id: u16) -> usize
+    ensures { (result ≡ seek_of rs.now id) × (result ≤ most_readings) }
 {
-    if n == 0 {
-        return false;
-    }
-    if READINGS < n {
-        return false;
-    }
-    true
-}
-
-// The place of id. Here alone the chain is searched for an id, since each function that takes the readings copies them.
-pub(crate) fn site_of(rs: Readings, id: u16) -> Site
-    ensures { (result ≡ site_of rs id) × (result.before ≤ most_readings) }
-{
-    let mut p: u16 = 0;
-    let mut left: u16 = READINGS;
-    while 0 < left {
-        let at = p as usize;
-        let n = rs.records[at].next;
-        if is_record(n) {
-            let k = n as usize;
-            if rs.records[k].id < id {
-                p = n;
-                left -= 1;
-            } else {
-                left = 0;
-            }
-        } else {
-            left = 0;
+    let mut p = 0;
+    for _ in 0..READINGS {
+        let Some(k) = index_of(rs.records[p].next) else {
+            return p;
+        };
+        if rs.records[k].id >= id {
+            return p;
         }
+        p = k;
     }
-    let at = p as usize;
-    let next = rs.records[at].next;
-    let k = record_index(next);
-    let there = rs.records[k];
-    let free = rs.free;
-    let f = record_index(free);
-    let after_free = rs.records[f].next;
-    let head = rs.records[0];
+    p
+}
+
+// The place of id.
+#[tactic(auto, unfolding(crate::specs::Readings::site_of))]
+pub(crate) fn site_of(rs: &Readings, id: u16) -> Site
+    ensures { (result ≡ site_of rs.now id) × (result.before ≤ most_readings) }
+{
+    let before = seek(rs, id);
+    let next = rs.records[before].next;
+    let there = rs.records[record_index(next)];
+    let after_free = rs.records[record_index(rs.free)].next;
     Site {
-        before: p,
+        before,
         next,
         there,
-        free,
+        free: rs.free,
         after_free,
-        head,
+        head: rs.records[0],
     }
 }
 
-// The record at the place of id where it holds id, else 0.
-pub(crate) fn holder_in(site: Site, id: u16) -> u16
-    ensures { (result ≡ holder_in site id) × (result ≤ most_readings) }
+// The index of the record at the place of id, where it holds id.
+#[tactic(auto, unfolding(crate::specs::Readings::holder_in))]
+pub(crate) fn holder_in(site: Site, id: u16) -> Option<usize>
+    ensures is { result ≡ holder_in site id }
+    ensures inside { IfSome result (λ k. k < most_records) }
 {
-    let n = site.next;
-    if is_record(n) {
-        if site.there.id == id {
-            return n;
-        }
+    if site.there.id == id {
+        index_of(site.next)
+    } else {
+        None
     }
-    0
 }
 
 // What is held for id.
-pub fn find(rs: Readings, id: u16) -> Found
+pub fn find(rs: Readings, id: u16) -> Option<Stored>
     ensures is { result ≡ find_of rs id }
     ensures means { (l : List Entry) → Holds rs l → result ≡ lookup id l }
 {
-    let site = site_of(rs, id);
-    if holder_in(site, id) == 0 {
-        return Found::Nothing;
-    }
-    let there = site.there;
-    let held = there.held;
-    Found::Held(held)
-}
-
-pub(crate) fn with_next(rs: Readings, at: usize, n: u16) -> Readings
-    requires { at < most_records }
-    ensures { result ≡ with_next rs at n }
-{
-    let mut out = rs;
-    let r = out.records[at];
-    let held = r.held;
-    out.records[at] = Reading {
-        id: r.id,
-        held,
-        next: n,
-    };
-    out
+    let site = site_of(&rs, id);
+    holder_in(site, id).map(|_| site.there.held)
 }
 
 // Keeps held for id: in the record that holds id, else in the first free one.
@@ -203,11 +174,11 @@ pub fn put(rs: Readings, id: u16, held: Stored) -> PutResult
     ensures is { result ≡ put_of rs id held }
     ensures means { (ls : Lists) → Rep rs ls → Puts rs ls id held result }
 {
-    let answer = put_edit(site_of(rs, id), id, held);
-    let said = answer.said;
-    let edit = answer.edit;
-    let readings = edited_by(rs, edit);
-    PutResult { said, readings }
+    let put = put_edit(&rs, id, held);
+    PutResult {
+        said: put.said,
+        readings: edited_by(rs, put.edit),
+    }
 }
 
 // Holds id no longer: its record is blank, and the first free one.
@@ -215,19 +186,15 @@ pub fn drop_id(rs: Readings, id: u16) -> Readings
     ensures is { result ≡ drop_id rs id }
     ensures means { (ls : Lists) → Rep rs ls → Rep result (drop_in id ls) }
 {
-    let site = site_of(rs, id);
-    let n = holder_in(site, id);
-    if n == 0 {
+    let site = site_of(&rs, id);
+    let Some(k) = holder_in(site, id) else {
         return rs;
-    }
-    let at = site.before as usize;
-    let k = n as usize;
-    let next = site.there.next;
-    let freed = free_record(rs.free);
+    };
     let mut out = rs;
-    out.records[k] = freed;
-    out.free = n;
-    with_next(out, at, next)
+    out.records[k] = free_record(rs.free);
+    out.free = site.next;
+    out.records[site.before].next = site.there.next;
+    out
 }
 
 // Everything held, along the chain.
@@ -235,25 +202,25 @@ pub fn listed(rs: Readings) -> Listing
     ensures is { result ≡ listed_of rs }
     ensures means { (l : List Entry) → Holds rs l → result ≡ listing l }
 {
-    let held = blank();
-    let none = Entry { id: 0, held };
+    let none = Entry {
+        id: 0,
+        held: blank(),
+    };
     let mut entries = [none; ENTRIES];
-    let mut count: u16 = 0;
     let mut n = rs.records[0].next;
-    while count < READINGS {
-        if n == 0 {
+    for count in 0..READINGS {
+        let Some(k) = index_of(n) else {
             return Listing { count, entries };
-        }
-        if READINGS < n {
-            return Listing { count, entries };
-        }
-        let k = n as usize;
-        let r = rs.records[k];
-        let held = r.held;
-        let i = count as usize;
-        entries[i] = Entry { id: r.id, held };
-        n = r.next;
-        count += 1;
+        };
+        let record = rs.records[k];
+        entries[count as usize] = Entry {
+            id: record.id,
+            held: record.held,
+        };
+        n = record.next;
     }
-    Listing { count, entries }
+    Listing {
+        count: READINGS,
+        entries,
+    }
 }

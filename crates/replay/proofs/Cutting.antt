@@ -5,9 +5,9 @@ use Rattle.session.specs.declared.event.Event.TheVariants as event
 use Rattle.session.specs.declared.event.Line.{Line}
 use Rattle.session.specs.declared.event.Other.TheVariants as other
 use Rattle.session.specs.declared.event.Reason.TheVariants as reason
-use Rattle.session.specs.Events.{or_line, bare, bad}
+use Rattle.session.specs.Events.{bare, bad}
 use Rattle.session.specs.Limits.{longest_line}
-use Rattle.session.specs.Lines.{shown_in, read_line}
+use Rattle.session.specs.Lines.{shown_in, read_line, said_in}
 use Rattle.station.specs.declared.station.Station.{Station}
 use Rattle.station.specs.Stations.{new_station}
 use Rattle.replay.specs.Events.{station_after, text_after, shown, line_says, station_after_line, text_after_line}
@@ -27,19 +27,23 @@ shown-long l h = rw (ne_eqb (length l) 0 (λ e. omega (arith, e))) (go (eqb (get
     go true = (omega arith, omega arith)
     go false = (omega arith, omega arith)
 
-reads-long : (line : List ℕ) → longest_line < length line → read_line line ≡ or_line (eqb (get_or line 0 0) 0x23) (bare (event.Other other.Nothing)) (bad reason.LineTooLong)
-unfolding read_line
+-- what such a line says, by its first byte
+abbrev too_long : ℕ → Line
+too_long b = cond (eqb b 0x23) (bare (event.Other other.Nothing)) (bad reason.LineTooLong)
+
+reads-long : (line : List ℕ) → longest_line < length line → read_line line ≡ too_long (get_or line 0 0)
+unfolding read_line said_in
 reads-long line h = rw (ne_eqb (length line) 0 (λ e. omega (arith, e)), lt-ltb longest_line (length line) h)
 
 -- only whether it is a comment is looked at
-says-long : (l : List ℕ) → Long l → line_says l ≡ or_line (eqb (get_or l 0 0) 0x23) (bare (event.Other other.Nothing)) (bad reason.LineTooLong)
+says-long : (l : List ℕ) → Long l → line_says l ≡ too_long (get_or l 0 0)
 unfolding line_says
 says-long l h =
     let n : ℕ = shown_in l (length l) in
     let s = shown-long l h in
     let long : longest_line < length (shown l) = rw (length-take-le n l s.1) s.0 in
     let first : get_or (shown l) 0 0 ≡ get_or l 0 0 = get_or-take n l 0 0 (omega (arith, s.0)) in
-    reads-long (shown l) long ∙ ap (λ (b : ℕ). or_line (eqb b 0x23) (bare (event.Other other.Nothing)) (bad reason.LineTooLong)) first
+    reads-long (shown l) long ∙ ap too_long first
 
 -- ---- lines that are answered alike
 
@@ -49,7 +53,7 @@ Same a b = (a ≡ b) ⊎ (Long a × Long b × (get_or a 0 0 ≡ get_or b 0 0))
 same-says : (a b : List ℕ) → Same a b → line_says a ≡ line_says b
 same-says a b (inl e) = ap line_says e
 same-says a b (inr l) =
-    says-long a l.0 ∙ ap (λ (x : ℕ). or_line (eqb x 0x23) (bare (event.Other other.Nothing)) (bad reason.LineTooLong)) l.2 ∙ sym (says-long b l.1)
+    says-long a l.0 ∙ ap too_long l.2 ∙ sym (says-long b l.1)
 
 longer : (a : List ℕ) (b : ℕ) → Long a → Long (a ++ (b ∷ []))
 longer a b h = rw (length-append a (b ∷ [])) (omega arith)

@@ -1,7 +1,6 @@
 pub mod LimitsTied
 pub mod Fits
 pub mod Turning
-pub mod Texts
 pub mod Hearing
 pub mod Going
 pub mod Keeping

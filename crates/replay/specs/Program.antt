@@ -1,8 +1,10 @@
 -- The whole program: what is answered to the bytes of an input, in one piece and as it is read. Definitions only.
-use Rattle.std.specs.Prelude.{◌≡◌, ℕ, ◌+◌, ◌-◌, ◌%◌, ◌^◌, ◌<◌, ◌≤◌, Bool, true, false, cond, List, [], ◌∷◌, ◌++◌, length, take, drop, ◌==◌, nat_le}
+use Rattle.std.specs.Prelude.{◌≡◌, ℕ, ◌+◌, ◌-◌, ◌%◌, ◌^◌, ◌<◌, ◌≤◌, Bool, true, false, cond, List, [], ◌∷◌, ◌++◌, length, take, ◌==◌, nat_le}
 use Rattle.session.specs.declared.event.Reason.TheVariants as reason
 use Rattle.station.specs.declared.station.Station.{Station}
 use Rattle.station.specs.Stations.{new_station}
+use Rattle.replay.specs.declared.lines.Ran.{Ran}
+use Rattle.replay.specs.declared.lines.Ran.TheVariants as ran
 use Rattle.replay.specs.Limits.{buffer_size, kept_bytes}
 use Rattle.replay.specs.Reasons.{error_text}
 use Rattle.replay.specs.Events.{station_after_line, text_after_line}
@@ -49,10 +51,6 @@ program bytes = answered (hear_all (heard new_station [] []) bytes)
 -- what is kept of a line that isn't whole: of one that fills the buffer the first bytes, which are too many already
 unfoldable pub kept_of : List ℕ → List ℕ
 kept_of line = cond (nat_le buffer_size (length line)) (take kept_bytes line) line
-
--- so many bytes of a buffer, from a place on, moved to its front
-abbrev pub move_down : List ℕ → ℕ → ℕ → List ℕ
-move_down l from count = take count (drop from l) ++ drop count l
 
 -- what was heard, with so much of its line
 abbrev pub kept_as : HeardSoFar → HeardSoFar
@@ -123,3 +121,8 @@ pub record OutOfTurns (got sent : ℕ) : Type 0 where
   pub station : Station
   pub pending : List ℕ
   pub reached : Reached station pending got sent 0
+
+-- what the ends of a run say
+abbrev pub Answered : Ran → Type 0
+Answered (ran.All got sent) = AllAnswered got sent
+Answered (ran.OutOfTurns got sent) = OutOfTurns got sent

@@ -4,7 +4,6 @@ use Rattle.session.specs.declared.event.Reason.{Reason}
 use Rattle.session.specs.declared.event.Reason.TheVariants as reason
 use Rattle.text.specs.Ascii.{ascii}
 use Rattle.text.specs.Put.{decimal_text}
-use Rattle.text.specs.Words.{part_at}
 
 -- what a letter of a shape asks for
 unfoldable pub wanted_text : ℕ → List ℕ
@@ -25,27 +24,7 @@ count_text n = ascii "this event has " ++ decimal_text n ++ ascii " words, parte
 abbrev pub bad_word_text : ℕ → ℕ → List ℕ
 bad_word_text n letter = ascii "word " ++ decimal_text n ++ ascii " isn't " ++ wanted_text letter
 
--- the place of a reason that carries nothing among their texts, and 12 for any other
-unfoldable pub reason_place : Reason → ℕ
-reason_place reason.LineTooLong = 0
-reason_place reason.NoSuchEvent = 1
-reason_place reason.NoSuchCommand = 2
-reason_place (reason.WordCount n) = 12
-reason_place (reason.BadWord n letter) = 12
-reason_place reason.LogWords = 3
-reason_place reason.Stamp = 4
-reason_place reason.Direction = 5
-reason_place reason.FrameId = 6
-reason_place reason.FrameData = 7
-reason_place reason.RemoteFrame = 8
-reason_place reason.FdFrame = 9
-reason_place reason.ErrorFrame = 10
-reason_place reason.TornLine = 11
-
--- the texts of reasons that carry nothing, parted by |
-abbrev pub plain_text : Reason → List ℕ
-plain_text r = part_at 0x7C (ascii "a line has at most 4096 bytes|no event begins with this word|start has no such command|a log's line is (SECONDS.MICROS) IFACE ID#DATA|a time is (SECONDS.MICROS), below 2^64 ms|only R or T may follow ID#DATA|ID is 8 or 3 hexadecimal digits before a #|DATA is 0 to 8 bytes, two digits each|a remote frame isn't handed in|a CAN FD frame isn't handed in|an id above 1FFFFFFF marks an error frame|the input ends within a line") (reason_place r)
-
+-- a reason
 unfoldable pub reason_text : Reason → List ℕ
 reason_text reason.LineTooLong = ascii "a line has at most 4096 bytes"
 reason_text reason.NoSuchEvent = ascii "no event begins with this word"

@@ -1,4 +1,7 @@
-// What the buffers hold; a buffer is main's, of 65,536 bytes. proofs/LimitsTied ties them.
+// What the buffers hold; proofs/LimitsTied ties them.
+
+// A buffer's bytes; both buffers are main's.
+pub const BUFFER: usize = 65536;
 
 // Up to here an answer is put behind the others; past it they are written first.
 pub const ROOM: usize = 57344;

@@ -1,150 +1,79 @@
-// A line answered on the lent station: the eight places. A call goes to the place that it names; what replaces the station, or
-// concerns nothing of it, goes by value.
-ghost use Rattle.std.specs.Prelude.{◌≡◌, ◌<◌, ◌≤◌, true, ◌++◌, length, take};
-ghost use Rattle.text.specs.Put.{Put};
-ghost use Rattle.answers.specs.Looks.{looked_text};
-ghost use Rattle.station.specs.Calls.{time_of};
+// The lines of the input, each answered on the lent station: the eight places. A call goes to the place that it names.
+ghost use Rattle.std.specs.Prelude.{◌≡◌};
+ghost use Rattle.text.specs.Put.{put};
 ghost use Rattle.station.specs.lent.Lent.{station_of};
-ghost use Rattle.replay.specs.Limits.{buffer_size, output_room};
 ghost use Rattle.replay.specs.Events as spec;
 ghost use Rattle.replay.specs.Turns as turn;
 
-use crate::cursor::{Cursor, first_line, line_in, next_line};
-use crate::others::{is_fresh, put_other};
+use crate::limits::{BUFFER, ROOM};
+use crate::others::take_other;
 use answers::looks::put_looked;
 use answers::said::{put_said, put_told};
 use motor::motor::Motor;
-use session::event::{Event, Line, Other};
+use session::event::{Event, Line};
 use session::line::{read_line, shown};
 use station::call::{Answer, Asked, Call, Replied, time_of};
+use station::lent::call::call;
 use station::lent::look::look;
 use station::limits::MOTORS;
-use station::station::{Looked, new};
+use text::{Text, position_of};
 
-// The places after lines, and where the next line stands.
+// What is left of the bytes from a place on: half a line, which no LF ends, or lines, for whose answers there is no room.
 #[derive(Clone, Copy)]
-pub struct Taken {
-    pub motors: [Motor; MOTORS],
-    pub cursor: Cursor,
+pub enum Left {
+    Half(usize),
+    Lines(usize),
 }
 
-// What the line at a cursor says.
-fn line_at(inp: &[u8], c: Cursor) -> Line
-    ensures { result ≡ spec.line_says (turn.line_at inp.now c.from c.end) }
+// What a line says, which may end with a CR.
+#[tactic(auto, unfolding(crate::specs::Events::line_says))]
+fn line_says(line: &[u8]) -> Line
+    ensures { result ≡ spec.line_says line.now }
 {
-    let line = line_in(inp, c);
-    let n = shown(line);
-    read_line(&line[..n])
+    read_line(&line[..shown(line)])
 }
 
-// ---- answers
-
-// A call's reply; of a look what it shows is put_look's.
-fn put_replied(replied: Replied, time: u64, out: &mut [u8], at: usize) -> usize
-    ensures { Put out.old «at» (spec.replied_text replied time) out.new result }
+// A call's reply; of a look what it shows is put_looked's.
+#[tactic(auto, using(text::proofs::Putting::puts_joined), unfolding(crate::specs::Events::replied_text))]
+fn put_replied<const N: usize>(replied: Replied, time: u64, out: &mut Text<N>)
+    ensures { out.new ≡ put out.old (spec.replied_text replied time) }
 {
-    let answer = replied.answer;
-    let frame = replied.frame;
-    let result = replied.result;
-    match answer {
-        Answer::Told(said) => put_told(said, out, at),
-        Answer::Moved(said) => put_said(said, frame, result, time, out, at),
-        Answer::Looked(said) => put_told(said, out, at),
+    match replied.answer {
+        Answer::Told(said) | Answer::Looked(said) => put_told(said, out),
+        Answer::Moved(said) => put_said(said, replied.frame, replied.result, time, out),
     }
 }
 
-// Puts a call's answer, and finds the next line.
-fn put_reply(
-    replied: Replied,
-    call: Call,
-    inp: &[u8],
-    n: usize,
-    out: &mut [u8],
-    c: Cursor,
-) -> Cursor
-    ensures { Put out.old c.«at» (spec.replied_text replied (time_of call)) out.new result.«at» × (result.more ≡ true → result.left < c.left) × (result ≡ turn.cursor_after inp.now n c result.«at») }
+// A line without its LF, answered on the lent station: the places at exit and the text are those of the by-value calls.
+fn take_line<const N: usize>(motors: &mut [Motor; MOTORS], line: &[u8], out: &mut Text<N>)
+    ensures { (station_of motors.new ≡ spec.station_after_line (station_of motors.old) line.now) × (out.new ≡ put out.old (spec.text_after_line (station_of motors.old) line.now)) }
 {
-    let at = c.at;
-    let p = put_replied(replied, time_of(call), out, at);
-    next_line(inp, n, c, p)
-}
-
-// Puts a look's answer, and finds the next line.
-fn put_look(looked: Looked, inp: &[u8], n: usize, out: &mut [u8], c: Cursor) -> Cursor
-    ensures { Put out.old c.«at» (looked_text looked) out.new result.«at» × (result.more ≡ true → result.left < c.left) × (result ≡ turn.cursor_after inp.now n c result.«at») }
-{
-    let at = c.at;
-    let p = put_looked(looked, out, at);
-    next_line(inp, n, c, p)
-}
-
-// ---- lines
-
-// What a line says besides calls: `fresh` is a new station, all else leaves it as it was.
-fn take_other(
-    motors: [Motor; MOTORS],
-    other: Other,
-    inp: &[u8],
-    n: usize,
-    out: &mut [u8],
-    c: Cursor,
-) -> Taken
-    ensures { (station_of result.motors ≡ spec.station_of_other (station_of motors) other) × Put out.old c.«at» (spec.other_text other) out.new result.cursor.«at» × (result.cursor.more ≡ true → result.cursor.left < c.left) × (result.cursor ≡ turn.cursor_after inp.now n c result.cursor.«at») }
-{
-    let at = c.at;
-    let p = put_other(other, out, at);
-    let cursor = next_line(inp, n, c, p);
-    if is_fresh(other) {
-        let st = new();
-        let motors = st.motors;
-        return Taken { motors, cursor };
-    }
-    Taken { motors, cursor }
-}
-
-// The line at a cursor, answered on the lent station: the places at exit and the text are those of the by-value calls.
-pub(crate) fn take_line(
-    motors: &mut [Motor; MOTORS],
-    inp: &[u8],
-    n: usize,
-    out: &mut [u8],
-    c: Cursor,
-) -> Cursor
-    requires { (length out.old ≡ buffer_size) × (c.«at» ≤ output_room) }
-    ensures { (station_of motors.new ≡ spec.station_after_line (station_of motors.old) (turn.line_at inp.now c.from c.end)) × Put out.old c.«at» (spec.text_after_line (station_of motors.old) (turn.line_at inp.now c.from c.end)) out.new result.«at» × (result.more ≡ true → result.left < c.left) × (result ≡ turn.cursor_after inp.now n c result.«at») × (take result.«at» out.new ≡ take c.«at» out.old ++ spec.text_after_line (station_of motors.old) (turn.line_at inp.now c.from c.end)) }
-{
-    let line = line_at(inp, c);
-    let event = line.event;
-    match event {
-        Event::Call(call) => match call {
-            Call::Look { id } => {
-                let looked = look(motors, id);
-                return put_look(looked, inp, n, out, c);
-            }
+    let says = line_says(line);
+    match says.event {
+        Event::Call(asked) => match asked {
+            Call::Look { id } => put_looked(look(motors, id), out),
             _ => {
-                let frame = line.frame;
-                let replied = station::lent::call::call(motors, Asked { call, frame });
-                return put_reply(replied, call, inp, n, out, c);
+                let frame = says.frame;
+                let replied = call(motors, Asked { call: asked, frame });
+                put_replied(replied, time_of(asked), out);
             }
         },
-        Event::Other(other) => {
-            let taken = take_other(*motors, other, inp, n, out, c);
-            let left = taken.motors;
-            *motors = left;
-            return taken.cursor;
-        }
+        Event::Other(other) => take_other(motors, other, out),
     }
 }
 
-// The lines that end among the first n bytes, as long as there is room for an answer.
-pub(crate) fn take_lines(motors: [Motor; MOTORS], inp: &[u8], n: usize, out: &mut [u8]) -> Taken
-    requires { (n ≤ length inp.now) × (length inp.now ≤ buffer_size) × (length out.old ≡ buffer_size) }
-    ensures { turn.LinesTaken (station_of motors) (take n inp.now) (station_of result.motors) result.cursor out.new }
+// The lines that end among the bytes, as long as there is room for an answer. Their text is all that stands in the buffer.
+pub(crate) fn take_lines(motors: &mut [Motor; MOTORS], inp: &[u8], out: &mut Text<BUFFER>) -> Left
+    ensures { turn.LinesTaken (station_of motors.old) inp.now (station_of motors.new) result out.new }
 {
-    let mut motors = motors;
-    let mut cursor = first_line(inp, n);
-    while cursor.more {
-        cursor = take_line(&mut motors, inp, n, out, cursor);
+    out.at = 0;
+    let mut from: usize = 0;
+    while let Some(end) = position_of(&inp[from..], b'\n') {
+        if ROOM < out.at {
+            return Left::Lines(from);
+        }
+        take_line(motors, &inp[from..from + end], out);
+        from += end + 1;
     }
-    Taken { motors, cursor }
+    Left::Half(from)
 }

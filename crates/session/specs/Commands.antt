@@ -1,6 +1,6 @@
 -- The command of a start. k is its row of the table, and v has the line's numbers, the arguments from place 3 on. Definitions
 -- only.
-use Rattle.std.specs.Prelude.{ℕ, ◌+◌, ◌%◌, ◌^◌, Bool, true, false, cond, List, [], ◌∷◌, eqb, leb, length, get_or}
+use Rattle.std.specs.Prelude.{ℕ, ◌+◌, ◌%◌, ◌^◌, cond, List, [], ◌∷◌, eqb, leb, get_or, Option, Some, None, option_and_then, Result, Ok, Err, ok_or}
 use Rattle.std.specs.Int.{w8}
 use Rattle.std.proofs.Common.{to_z}
 use Rattle.codec.specs.declared.protocol.ParameterValue.{ParameterValue}
@@ -10,17 +10,15 @@ use Rattle.codec.specs.declared.registers.ControlMode.TheVariants as mode
 use Rattle.codec.specs.declared.word.Word.{Word}
 use Rattle.motor.specs.declared.engine.command.Command.{Command}
 use Rattle.motor.specs.declared.engine.command.Command.TheVariants as command
-use Rattle.text.specs.Search.{index_of}
-use Rattle.text.specs.Words.{word_at}
+use Rattle.station.specs.declared.call.Call.{Call}
 use Rattle.station.specs.declared.call.Call.TheVariants as call
-use Rattle.session.specs.declared.arguments.Fitting.{Fitting}
-use Rattle.session.specs.declared.arguments.Fitting.TheVariants as fit
-use Rattle.session.specs.declared.event.Event.{Event}
-use Rattle.session.specs.declared.event.Event.TheVariants as event
+use Rattle.text.specs.Search.{position_of}
+use Rattle.text.specs.Words.{word_at}
+use Rattle.session.specs.declared.event.Reason.{Reason}
 use Rattle.session.specs.declared.event.Reason.TheVariants as reason
-use Rattle.session.specs.Table.{commands, place_of, shape_at, row_at}
-use Rattle.session.specs.Events.{error}
-use Rattle.session.specs.Arguments.{arguments_of, fit_of}
+use Rattle.session.specs.Table.{commands, row_of, shape_at}
+use Rattle.session.specs.Events.{◌>>=◌}
+use Rattle.session.specs.Arguments.{arguments_of}
 
 -- number i of a line as a byte, as 16 bits, and as a float's word
 abbrev pub byte : List ℕ → ℕ → ℕ
@@ -35,32 +33,20 @@ low_word n = record { bits = n % 2 ^ 32 }
 abbrev pub word : List ℕ → ℕ → Word
 word v i = low_word (get_or v i 0)
 
-abbrev pub or_mode : Bool → ControlMode → ControlMode → ControlMode
-or_mode true a b = a
-or_mode false a b = b
-
 -- mit, pp, velocity, csp
 unfoldable pub mode_of : ℕ → ControlMode
-mode_of n = or_mode (eqb n 0) mode.Mit (or_mode (eqb n 1) mode.Position (or_mode (eqb n 2) mode.Velocity mode.PositionCsp))
-
-abbrev pub or_value : Bool → ParameterValue → ParameterValue → ParameterValue
-or_value true a b = a
-or_value false a b = b
+mode_of n = cond (eqb n 0) mode.Mit (cond (eqb n 1) mode.Position (cond (eqb n 2) mode.Velocity mode.PositionCsp))
 
 -- i8, u8, u16, u32, f32, with the value's bits
 unfoldable pub typed_value : ℕ → ℕ → ParameterValue
 typed_value kind bits =
-    or_value (eqb kind 0) (value.I8 (to_z w8 (bits % 2 ^ 8)))
-    (or_value (eqb kind 1) (value.U8 (bits % 2 ^ 8))
-    (or_value (eqb kind 2) (value.U16 (bits % 2 ^ 16)) (or_value (eqb kind 3) (value.U32 (bits % 2 ^ 32)) (value.F32 (low_word bits)))))
+    cond (eqb kind 0) (value.I8 (to_z w8 (bits % 2 ^ 8)))
+    (cond (eqb kind 1) (value.U8 (bits % 2 ^ 8))
+    (cond (eqb kind 2) (value.U16 (bits % 2 ^ 16)) (cond (eqb kind 3) (value.U32 (bits % 2 ^ 32)) (value.F32 (low_word bits)))))
 
 -- the widest value of a kind
 unfoldable pub widest_of : ℕ → ℕ
 widest_of kind = cond (eqb kind 0) 0xFF (cond (eqb kind 1) 0xFF (cond (eqb kind 2) 0xFFFF 0xFFFF_FFFF))
-
-abbrev pub or_command : Bool → Command → Command → Command
-or_command true a b = a
-or_command false a b = b
 
 abbrev pub motion_of : List ℕ → Command
 motion_of v = command.SendCmdMit (word v 3) (word v 4) (word v 5) (word v 6) (word v 7)
@@ -98,41 +84,36 @@ command_rows v =
 -- the command of this row, and c where no row has the number
 abbrev pub command_at : ℕ → List (ℕ × Command) → Command → Command
 command_at k [] c = c
-command_at k (row ∷ rows) c = or_command (eqb k row.0) row.1 (command_at k rows c)
+command_at k (row ∷ rows) c = cond (eqb k row.0) row.1 (command_at k rows c)
 
 -- the command of row k
 unfoldable pub command_of : ℕ → List ℕ → Command
 command_of k v = command_at k (command_rows v) (command.Ping (get_or v 3 0))
 
-abbrev pub or_event : Bool → Event → Event → Event
-or_event true a b = a
-or_event false a b = b
+-- the word of a value that is wider than the kind before it, which K stands for at this place; words are counted from 1
+abbrev pub wide_at : ℕ → List ℕ → Option ℕ
+wide_at kind v = cond (leb 7 kind) None (cond (leb (get_or v (kind + 1) 0) (widest_of (get_or v kind 0))) None (Some (kind + 3)))
 
-abbrev pub wide_at : ℕ → ℕ → List ℕ → ℕ
-wide_at kind n v =
-    cond (leb n kind) 0 (cond (leb 7 kind) 0 (cond (leb (get_or v (kind + 1) 0) (widest_of (get_or v kind 0))) 0 (kind + 3)))
+-- the word of a value that is wider than its kind, if there is one
+unfoldable pub too_wide : List ℕ → List ℕ → Option ℕ
+too_wide shape v = option_and_then (λ kind. wide_at kind v) (position_of 0x4B shape)
 
--- the word of a value that is wider than the kind before it, counted from 1; 0 for none
-abbrev pub too_wide : List ℕ → List ℕ → ℕ
-too_wide shape v = wide_at (index_of 0x4B shape) (length shape) v
+abbrev pub start_by : Option ℕ → ℕ → List ℕ → Result Call Reason
+start_by None k v = Ok (call.Start (half v 0) (command_of k v) (get_or v 1 0))
+start_by (Some word) k v = Err (reason.BadWord word 0x56)
 
-abbrev pub start_by : ℕ → ℕ → List ℕ → Event
-start_by wide k v = or_event (eqb wide 0) (event.Call (call.Start (half v 0) (command_of k v) (get_or v 1 0))) (error (reason.BadWord wide 0x56))
-
-unfoldable pub start_event : ℕ → List ℕ → List ℕ → Event
+-- the start of row k, of a line's numbers
+unfoldable pub start_event : ℕ → List ℕ → List ℕ → Result Call Reason
 start_event k shape v = start_by (too_wide shape v) k v
 
--- what a line with these words is, where they fit
-abbrev pub if_fit : Fitting → Event → Event
-if_fit fit.Good e = e
-if_fit (fit.Bad r) e = error r
-
-abbrev pub started_by : List ℕ → List ℕ → ℕ → Event
-started_by line shape k = if_fit (fit_of line shape (arguments_of line shape).good) (start_event k shape (arguments_of line shape).v)
-
-abbrev pub started_as : List ℕ → ℕ → Event
-started_as line at = or_event (eqb at (length commands)) (error reason.NoSuchCommand) (started_by line (shape_at commands at) (row_at commands at))
+-- the start that a line with this shape says
+abbrev pub started_by : List ℕ → List ℕ → ℕ → Result Call Reason
+started_by line shape k = do
+  v ← arguments_of line shape
+  start_event k shape v
 
 -- start ID TIME COMMAND ARGS
-unfoldable pub started : List ℕ → Event
-started line = started_as line (place_of commands (word_at line 3))
+unfoldable pub started : List ℕ → Result Call Reason
+started line = do
+  k ← ok_or (row_of commands (word_at line 3)) reason.NoSuchCommand
+  started_by line (shape_at commands k) k

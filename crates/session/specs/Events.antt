@@ -1,5 +1,5 @@
 -- What a line of a session says: an event, and beside it the frame that is handed in. Definitions only.
-use Rattle.std.specs.Prelude.{ℕ, ◌/◌, ◌%◌, ◌^◌, Bool, true, false, List, [], ◌∷◌}
+use Rattle.std.specs.Prelude.{ℕ, ◌/◌, ◌%◌, ◌^◌, Bool, List, [], ◌∷◌, Result, Ok, Err}
 use Rattle.codec.specs.declared.bus.CanFrame.{CanFrame}
 use Rattle.motor.specs.engine.Requests.{no_frame}
 use Rattle.station.specs.declared.call.Call.TheVariants as call
@@ -9,16 +9,24 @@ use Rattle.session.specs.declared.event.Line.{Line}
 use Rattle.session.specs.declared.event.Other.TheVariants as other
 use Rattle.session.specs.declared.event.Reason.{Reason}
 
--- a line that is no event
-abbrev pub error : Reason → Event
-error r = event.Other (other.Error r)
-
 -- no frame stands beside the event
 abbrev pub bare : Event → Line
 bare e = record { event = e; frame = no_frame }
 
+-- a line that is no event
 abbrev pub bad : Reason → Line
-bad r = bare (error r)
+bad r = bare (event.Other (other.Error r))
+
+-- what is read, or why it is none
+abbrev pub line_of : Result Line Reason → Line
+line_of (Ok l) = l
+line_of (Err r) = bad r
+
+-- what follows a good step; a reason ends it
+infixl 10 ◌>>=◌
+abbrev pub ◌>>=◌ : {A B : Type 0} → Result A Reason → (A → Result B Reason) → Result B Reason
+Ok a >>= f = f a
+Err r >>= f = Err r
 
 -- the eight bytes of a payload's number, the highest first
 abbrev pub payload : ℕ → List ℕ
@@ -39,7 +47,3 @@ can_frame id v extended dlc rx = record { arbitration_id = id; «data» = payloa
 -- a frame is handed in at a time
 abbrev pub hands : CanFrame → ℕ → Line
 hands f time = record { event = event.Call (call.Frame time); frame = f }
-
-abbrev pub or_line : Bool → Line → Line → Line
-or_line true a b = a
-or_line false a b = b

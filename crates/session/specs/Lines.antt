@@ -1,19 +1,18 @@
 -- What a line says. Definitions only.
-use Rattle.std.specs.Prelude.{ℕ, ◌-◌, ◌%◌, ◌^◌, cond, List, eqb, ltb, length, get_or}
+use Rattle.std.specs.Prelude.{ℕ, ◌-◌, ◌%◌, ◌^◌, cond, List, eqb, ltb, length, get_or, Result, Ok, Err, ok_or}
 use Rattle.codec.specs.Models.{model_named}
 use Rattle.station.specs.declared.call.Call.TheVariants as call
 use Rattle.text.specs.Words.{word_at}
-use Rattle.session.specs.declared.arguments.Fitting.{Fitting}
-use Rattle.session.specs.declared.arguments.Fitting.TheVariants as fit
 use Rattle.session.specs.declared.event.Event.TheVariants as event
 use Rattle.session.specs.declared.event.Line.{Line}
 use Rattle.session.specs.declared.event.Other.TheVariants as other
+use Rattle.session.specs.declared.event.Reason.{Reason}
 use Rattle.session.specs.declared.event.Reason.TheVariants as reason
 use Rattle.session.specs.Limits.{longest_line}
-use Rattle.session.specs.Table.{events, place_of, shape_at, row_at}
-use Rattle.session.specs.Arguments.{arguments_of, fit_of}
+use Rattle.session.specs.Table.{events, row_of, shape_at}
+use Rattle.session.specs.Arguments.{arguments_of}
 use Rattle.session.specs.Commands.{byte, half, started}
-use Rattle.session.specs.Events.{bare, bad, can_frame, hands, or_line}
+use Rattle.session.specs.Events.{bare, line_of, can_frame, hands, ◌>>=◌}
 use Rattle.session.specs.Heard.{heard_in}
 
 -- how long a line is without one CR at its end
@@ -31,33 +30,35 @@ any_frame v = hands (can_frame (get_or v 1 0 % 2 ^ 32) (get_or v 2 0) (eqb (get_
 -- the event of row k, of a line and its numbers
 unfoldable pub call_event : List ℕ → ℕ → List ℕ → Line
 call_event line k v =
-    or_line (eqb k 0) (bare (event.Other other.Fresh))
-    (or_line (eqb k 1) (registered (word_at line 3) v)
-    (or_line (eqb k 2) (bare (event.Call (call.Step (half v 0) (get_or v 1 0))))
-    (or_line (eqb k 3) (any_frame v)
-    (or_line (eqb k 4) (bare (event.Call (call.Look (half v 0)))) (bare (event.Call (call.Remove (half v 0) (get_or v 1 0))))))))
+    cond (eqb k 0) (bare (event.Other other.Fresh))
+    (cond (eqb k 1) (registered (word_at line 3) v)
+    (cond (eqb k 2) (bare (event.Call (call.Step (half v 0) (get_or v 1 0))))
+    (cond (eqb k 3) (any_frame v)
+    (cond (eqb k 4) (bare (event.Call (call.Look (half v 0)))) (bare (event.Call (call.Remove (half v 0) (get_or v 1 0))))))))
 
--- what a line with these words is, where they fit
-abbrev pub if_fits : Fitting → Line → Line
-if_fits fit.Good l = l
-if_fits (fit.Bad r) l = bad r
+abbrev pub called_by : List ℕ → List ℕ → ℕ → Result Line Reason
+called_by line shape k = do
+  v ← arguments_of line shape
+  Ok (call_event line k v)
 
-abbrev pub called_by : List ℕ → List ℕ → ℕ → Line
-called_by line shape k = if_fits (fit_of line shape (arguments_of line shape).good) (call_event line k (arguments_of line shape).v)
+abbrev pub starts : List ℕ → Result Line Reason
+starts line = do
+  c ← started line
+  Ok (bare (event.Call c))
 
--- a start's line is read by its command
-unfoldable pub called : List ℕ → List ℕ → ℕ → Line
-called line shape k = or_line (eqb k 6) (bare (started line)) (called_by line shape k)
+-- the event that the first word says: a start's line, row 6, is read by its command
+unfoldable pub called : List ℕ → Result Line Reason
+called line = do
+  k ← ok_or (row_of events (word_at line 0)) reason.NoSuchEvent
+  cond (eqb k 6) (starts line) (called_by line (shape_at events k) k)
 
-abbrev pub line_by : List ℕ → ℕ → Line
-line_by line at = or_line (eqb at (length events)) (bad reason.NoSuchEvent) (called line (shape_at events at) (row_at events at))
+-- a line has at most 4,096 bytes; one that begins with ( is a line of a log
+unfoldable pub said_in : List ℕ → Result Line Reason
+said_in line =
+    cond (ltb longest_line (length line)) (Err reason.LineTooLong) (cond (eqb (get_or line 0 0) 0x28) (heard_in line) (called line))
 
--- Blank lines and comments are nothing; a line has at most 4,096 bytes; one that begins with ( is a line of a log; else the first
--- word says which event it is.
+-- blank lines and comments are nothing
 unfoldable pub read_line : List ℕ → Line
 read_line line =
-    or_line (eqb (length line) 0) (bare (event.Other other.Nothing))
-    (or_line (eqb (get_or line 0 0) 0x23) (bare (event.Other other.Nothing))
-    (or_line (ltb longest_line (length line)) (bad reason.LineTooLong)
-    (or_line (eqb (get_or line 0 0) 0x28) (heard_in line)
-    (line_by line (place_of events (word_at line 0))))))
+    cond (eqb (length line) 0) (bare (event.Other other.Nothing))
+    (cond (eqb (get_or line 0 0) 0x23) (bare (event.Other other.Nothing)) (line_of (said_in line)))

@@ -1,7 +1,7 @@
 -- The words of a session. Of commands and events a table has a row for each: its name, and the shape of its line. Definitions only.
-use Rattle.std.specs.Prelude.{ℕ, zero, suc, ◌+◌, ◌-◌, ◌/◌, cond, List, length, take, drop}
+use Rattle.std.specs.Prelude.{ℕ, zero, suc, ◌+◌, ◌*◌, cond, Option, Some, None, List, eqb, length}
 use Rattle.text.specs.Ascii.{ascii}
-use Rattle.text.specs.Words.{word_count, word_at, past_word, same_bytes}
+use Rattle.text.specs.Words.{word_at, past_word, same_bytes}
 
 -- the commands of a start, each with the shape of the whole line
 abbrev pub commands : List ℕ
@@ -21,18 +21,16 @@ kinds = ascii "i8 u8 u16 u32 f32"
 abbrev pub past_row : List ℕ → List ℕ
 past_row table = past_word (past_word table)
 
--- where the row of a name begins among the first n rows; the table's length where none of these has the name
-unfoldable pub row_from : List ℕ → ℕ → List ℕ → ℕ
-row_from table zero w = length table
-row_from table (suc n) w = cond (same_bytes w (word_at table 0)) 0 (length table - length (past_row table) + row_from (past_row table) n w)
+-- the row of a name among the next n rows, of which the first is row k, if one has the name
+unfoldable pub row_from : List ℕ → ℕ → ℕ → List ℕ → Option ℕ
+row_from table k zero w = None
+row_from table k (suc n) w =
+    cond (eqb (length table) 0) None (cond (same_bytes w (word_at table 0)) (Some k) (row_from (past_row table) (k + 1) n w))
 
--- where the row of a name begins in a table, which has no more rows than bytes
-unfoldable pub place_of : List ℕ → List ℕ → ℕ
-place_of table w = row_from table (length table) w
+-- the row of a name in a table, which has no more rows than bytes
+unfoldable pub row_of : List ℕ → List ℕ → Option ℕ
+row_of table w = row_from table 0 (length table) w
 
--- the shape of the row at a place, and the row's number
+-- the shape of a row: the word that follows its name
 abbrev pub shape_at : List ℕ → ℕ → List ℕ
-shape_at table at = word_at (drop at table) 1
-
-abbrev pub row_at : List ℕ → ℕ → ℕ
-row_at table at = word_count (take at table) / 2
+shape_at table k = word_at table (2 * k + 1)

@@ -2,9 +2,9 @@
 ghost use Rattle.std.specs.Prelude.{◌≡◌};
 ghost use Rattle.session.specs.Commands as spec;
 
-use crate::arguments::{Fitting, arguments, fit, low8, low16, low32};
-use crate::event::{Event, Other, Reason};
-use crate::table::{COMMANDS, place};
+use crate::arguments::{arguments, low8, low16, low32};
+use crate::event::Reason;
+use crate::table::{COMMANDS, row_of};
 use codec::protocol::ParameterValue;
 use codec::registers::ControlMode;
 use codec::word::{Word, signed_of};
@@ -12,57 +12,43 @@ use motor::engine::command::Command;
 use station::call::Call;
 
 // start ID TIME COMMAND ARGS
-pub(crate) fn started(line: &[u8]) -> Event
+#[tactic(auto, unfolding(crate::specs::Commands::started))]
+pub(crate) fn started(line: &[u8]) -> Result<Call, Reason>
     ensures { result ≡ spec.started line.now }
 {
-    let table: &[u8] = &COMMANDS;
-    let at = place(table, text::word(line, 3));
-    if at == table.len() {
-        return Event::Other(Other::Error(Reason::NoSuchCommand));
-    }
-    let shape = text::word(&table[at..], 1);
-    let k = text::word_count(&table[..at]) / 2;
-    let args = arguments(line, shape);
-    let v = args.v;
-    match fit(line, shape, args.good) {
-        Fitting::Good => start_event(k, shape, v),
-        Fitting::Bad(reason) => Event::Other(Other::Error(reason)),
-    }
+    let row = row_of(&COMMANDS, text::word(line, 3)).ok_or(Reason::NoSuchCommand)?;
+    let shape = text::word(&COMMANDS, 2 * row + 1);
+    start_event(row, shape, arguments(line, shape)?)
 }
 
 // The start of row k, whose arguments stand in v from place 3 on.
-fn start_event(k: usize, shape: &[u8], v: [u64; 8]) -> Event
+#[tactic(auto, unfolding(crate::specs::Commands::start_event))]
+fn start_event(k: usize, shape: &[u8], v: [u64; 8]) -> Result<Call, Reason>
     ensures { result ≡ spec.start_event k shape.now v }
 {
-    let wide = too_wide(shape, v);
-    if wide != 0 {
-        return Event::Other(Other::Error(Reason::BadWord(wide, b'V')));
+    if let Some(word) = too_wide(shape, v) {
+        return Err(Reason::BadWord(word, b'V'));
     }
-    Event::Call(Call::Start {
+    Ok(Call::Start {
         id: low16(v[0]),
         command: command_of(k, v),
         time: v[1],
     })
 }
 
-// The word of a value that is wider than the kind before it, counted from 1; 0 for none.
-fn too_wide(shape: &[u8], v: [u64; 8]) -> usize
+// The word of a value that is wider than the kind before it, counted from 1.
+#[tactic(auto, unfolding(crate::specs::Commands::too_wide))]
+fn too_wide(shape: &[u8], v: [u64; 8]) -> Option<usize>
     ensures { result ≡ spec.too_wide shape.now v }
 {
-    let kind = text::find(shape, 0, shape.len(), b'K');
-    if shape.len() <= kind {
-        return 0;
+    let kind = text::position_of(shape, b'K')?;
+    if 7 <= kind || v[kind + 1] <= widest(v[kind]) {
+        return None;
     }
-    if 7 <= kind {
-        return 0;
-    }
-    if v[kind + 1] <= widest(v[kind]) {
-        return 0;
-    }
-    kind + 3
+    Some(kind + 3)
 }
 
-// The command of row k: ping has row 0.
+// The command of row k, ping's being 0. By the row's place in the table: an enum of rows would have that order once more.
 #[tactic(auto, unfolding(crate::specs::Commands::command_of))]
 fn command_of(k: usize, v: [u64; 8]) -> Command
     ensures { result ≡ spec.command_of k v }
@@ -111,6 +97,7 @@ fn motion_of(v: [u64; 8]) -> Command
 }
 
 // A mode by its place among the names.
+#[tactic(auto, unfolding(crate::specs::Commands::mode_of))]
 fn mode_of(n: u64) -> ControlMode
     ensures { result ≡ spec.mode_of n }
 {
@@ -123,6 +110,7 @@ fn mode_of(n: u64) -> ControlMode
 }
 
 // A value by its kind's place among the names, and its bits.
+#[tactic(auto, unfolding(crate::specs::Commands::typed_value))]
 fn typed_value(kind: u64, bits: u64) -> ParameterValue
     ensures { result ≡ spec.typed_value kind bits }
 {
@@ -136,12 +124,12 @@ fn typed_value(kind: u64, bits: u64) -> ParameterValue
 }
 
 // The widest value of a kind.
+#[tactic(auto, unfolding(crate::specs::Commands::widest_of))]
 fn widest(kind: u64) -> u64
     ensures { result ≡ spec.widest_of kind }
 {
     match kind {
-        0 => 0xFF,
-        1 => 0xFF,
+        0 | 1 => 0xFF,
         2 => 0xFFFF,
         _ => 0xFFFF_FFFF,
     }
@@ -150,6 +138,5 @@ fn widest(kind: u64) -> u64
 fn low_word(n: u64) -> Word
     ensures { result ≡ spec.low_word n }
 {
-    let bits = low32(n);
-    Word { bits }
+    Word { bits: low32(n) }
 }

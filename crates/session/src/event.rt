@@ -51,8 +51,10 @@ pub struct Line {
 pub(crate) fn bare(event: Event) -> Line
     ensures { result ≡ spec.bare event }
 {
-    let frame = no_frame();
-    Line { event, frame }
+    Line {
+        event,
+        frame: no_frame(),
+    }
 }
 
 // A line that is no event.
@@ -66,6 +68,8 @@ pub(crate) fn bad(reason: Reason) -> Line
 pub(crate) fn hands(frame: CanFrame, time: u64) -> Line
     ensures { result ≡ spec.hands frame time }
 {
-    let event = Event::Call(Call::Frame { time });
-    Line { event, frame }
+    Line {
+        event: Event::Call(Call::Frame { time }),
+        frame,
+    }
 }

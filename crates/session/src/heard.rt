@@ -3,169 +3,109 @@ ghost use Rattle.std.specs.Prelude.{◌≡◌};
 ghost use Rattle.session.specs.Heard as spec;
 
 use crate::arguments::{low8, low32};
-use crate::event::{Line, Reason, bad, hands};
+use crate::event::{Line, Reason, hands};
 use crate::frame::can_frame;
-use text::Num;
+use codec::bus::CanFrame;
 
 // (SECONDS.MICROS) IFACE ID#DATA, and perhaps R or T
-pub(crate) fn heard(line: &[u8]) -> Line
+#[tactic(auto, unfolding(crate::specs::Heard::heard_in))]
+pub(crate) fn heard(line: &[u8]) -> Result<Line, Reason>
     ensures { result ≡ spec.heard_in line.now }
 {
     let n = text::word_count(line);
-    if n < 3 {
-        return bad(Reason::LogWords);
-    }
-    if 4 < n {
-        return bad(Reason::LogWords);
-    }
-    if text::word(line, 1).len() == 0 {
-        return bad(Reason::LogWords);
+    if n < 3 || 4 < n || text::word(line, 1).is_empty() {
+        return Err(Reason::LogWords);
     }
     if !is_direction(n, text::word(line, 3)) {
-        return bad(Reason::Direction);
+        return Err(Reason::Direction);
     }
-    let Num::Value(time) = stamp(text::word(line, 0)) else {
-        return bad(Reason::Stamp);
-    };
-    logged_frame(text::word(line, 2), time)
+    let time = stamp(text::word(line, 0)).ok_or(Reason::Stamp)?;
+    let frame = logged_frame(text::word(line, 2))?;
+    Ok(hands(frame, time))
 }
 
 // Whether a fourth word, if there is one, is R or T.
 fn is_direction(n: usize, w: &[u8]) -> bool
     ensures { result ≡ spec.is_direction n w.now }
 {
-    if n < 4 {
-        return true;
-    }
-    text::which(b"R T", 2, w) < 2
+    n < 4 || text::which(b"R T", 2, w).is_some()
 }
 
-// (SECONDS.MICROS), in whole milliseconds.
-fn stamp(w: &[u8]) -> Num
+// (SECONDS.MICROS), in whole milliseconds, where these are below 2^64.
+#[tactic(auto, using(crate::proofs::Reading::stamp_parts), unfolding(crate::specs::Heard::milliseconds_of))]
+fn stamp(w: &[u8]) -> Option<u64>
     ensures { result ≡ spec.stamp_of w.now }
 {
     let n = w.len();
-    if n < 10 {
-        return Num::Bad;
+    if n < 10 || w[n - 1] != b')' || w[n - 8] != b'.' {
+        return None;
     }
-    if w[n - 1] != b')' {
-        return Num::Bad;
-    }
-    let dot = n - 8;
-    if w[dot] != b'.' {
-        return Num::Bad;
-    }
-    milliseconds(
-        text::decimal_word(&w[1..dot]),
-        text::decimal_word(&w[dot + 1..n - 1]),
-    )
-}
-
-// Seconds and microseconds as milliseconds, where these are below 2^64.
-fn milliseconds(seconds: Num, micros: Num) -> Num
-    ensures { result ≡ spec.milliseconds_of seconds micros }
-{
-    let Num::Value(s) = seconds else {
-        return Num::Bad;
-    };
-    let Num::Value(us) = micros else {
-        return Num::Bad;
-    };
-    let ms = us / 1000;
-    if (u64::MAX - ms) / 1000 < s {
-        return Num::Bad;
-    }
-    Num::Value(s * 1000 + ms)
+    let seconds = text::decimal_word(&w[1..n - 8])?;
+    let micros = text::decimal_word(&w[n - 7..n - 1])?;
+    seconds.checked_mul(1000)?.checked_add(micros / 1000)
 }
 
 // ID#DATA
-fn logged_frame(w: &[u8], time: u64) -> Line
-    ensures { result ≡ spec.logged_frame w.now time }
+#[tactic(auto, unfolding(crate::specs::Heard::logged_frame))]
+fn logged_frame(w: &[u8]) -> Result<CanFrame, Reason>
+    ensures { result ≡ spec.logged_frame w.now }
 {
-    let end = text::find(w, 0, w.len(), b'#');
-    if w.len() <= end {
-        return bad(Reason::FrameId);
-    }
-    let Num::Value(id) = id_of(&w[..end]) else {
-        return bad(Reason::FrameId);
-    };
+    let end = text::position_of(w, b'#').ok_or(Reason::FrameId)?;
+    let id = id_of(&w[..end]).ok_or(Reason::FrameId)?;
     if 0x1FFF_FFFF < id {
-        return bad(Reason::ErrorFrame);
+        return Err(Reason::ErrorFrame);
     }
-    data_frame(&w[end + 1..], time, low32(id), end == 8)
+    data_frame(&w[end + 1..], low32(id), end == 8)
 }
 
 // Eight digits, or three.
-fn id_of(w: &[u8]) -> Num
+fn id_of(w: &[u8]) -> Option<u64>
     ensures { result ≡ spec.id_of w.now }
 {
-    if w.len() == 8 {
-        return text::hex_word(w);
+    match w.len() {
+        8 | 3 => text::hex_word(w),
+        _ => None,
     }
-    if w.len() == 3 {
-        return text::hex_word(w);
-    }
-    Num::Bad
 }
 
 // Up to eight bytes, two digits each. Where an R stands the frame is a remote one, and where a second # stands a CAN FD frame.
-fn data_frame(w: &[u8], time: u64, id: u32, extended: bool) -> Line
-    ensures { result ≡ spec.data_frame w.now time id extended }
+#[tactic(auto, unfolding(crate::specs::Heard::data_frame))]
+fn data_frame(w: &[u8], id: u32, extended: bool) -> Result<CanFrame, Reason>
+    ensures { result ≡ spec.data_frame w.now id extended }
 {
-    if begins(w, b'R') {
-        return bad(Reason::RemoteFrame);
+    match w {
+        [b'R', ..] => return Err(Reason::RemoteFrame),
+        [b'#', ..] => return Err(Reason::FdFrame),
+        _ => {}
     }
-    if begins(w, b'#') {
-        return bad(Reason::FdFrame);
-    }
-    let Num::Value(data) = data_of(w) else {
-        return bad(Reason::FrameData);
-    };
+    let bytes = data_of(w).ok_or(Reason::FrameData)?;
     let dlc = low8(w.len() as u64 / 2);
-    hands(can_frame(id, data, extended, dlc, true), time)
-}
-
-fn begins(w: &[u8], b: u8) -> bool
-    ensures { result ≡ spec.begins w.now b }
-{
-    if w.len() == 0 {
-        return false;
-    }
-    w[0] == b
+    Ok(can_frame(id, bytes, extended, dlc, true))
 }
 
 // The digits with zeros after them to 16, as one number.
-fn data_of(w: &[u8]) -> Num
+#[tactic(auto, unfolding(crate::specs::Heard::data_of))]
+fn data_of(w: &[u8]) -> Option<u64>
     ensures { result ≡ spec.data_of w.now }
 {
     let n = w.len();
     if n == 0 {
-        return Num::Value(0);
+        return Some(0);
     }
-    if 16 < n {
-        return Num::Bad;
+    if 16 < n || n % 2 == 1 {
+        return None;
     }
-    if n % 2 == 1 {
-        return Num::Bad;
-    }
-    let Num::Value(v) = text::hex_word(w) else {
-        return Num::Bad;
-    };
-    shifted(v, 16 - n)
+    shifted(text::hex_word(w)?, 16 - n)
 }
 
 // k zeros put after the digits of v.
-fn shifted(v: u64, k: usize) -> Num
+#[tactic(auto, using(crate::proofs::Reading::zeros_put))]
+fn shifted(v: u64, k: usize) -> Option<u64>
     ensures { result ≡ spec.shifted_by v k }
 {
     let mut n = v;
-    let mut i: usize = 0;
-    while i < k {
-        if 0x0FFF_FFFF_FFFF_FFFF < n {
-            return Num::Bad;
-        }
-        n = n * 16;
-        i += 1;
+    for _ in 0..k {
+        n = n.checked_mul(16)?;
     }
-    Num::Value(n)
+    Some(n)
 }

@@ -2,13 +2,13 @@
 ghost use Rattle.std.specs.Prelude.{◌≡◌, length, ◌≤◌};
 ghost use Rattle.session.specs.Lines as spec;
 
-use crate::arguments::{Fitting, arguments, fit, low8, low16, low32};
+use crate::arguments::{arguments, low8, low16, low32};
 use crate::commands::started;
 use crate::event::{Event, Line, Other, Reason, bad, bare, hands};
 use crate::frame::can_frame;
 use crate::heard::heard;
 use crate::limits::LONGEST;
-use crate::table::{EVENTS, START, place};
+use crate::table::{EVENTS, START, row_of};
 use codec::model::model_named;
 use station::call::Call;
 
@@ -16,56 +16,51 @@ use station::call::Call;
 pub fn shown(line: &[u8]) -> usize
     ensures { (result ≡ spec.shown_in line.now (length line.now)) × (result ≤ length line.now) }
 {
-    let n = line.len();
-    if n == 0 {
-        return 0;
+    match line {
+        [.., b'\r'] => line.len() - 1,
+        _ => line.len(),
     }
-    if line[n - 1] == b'\r' {
-        return n - 1;
-    }
-    n
 }
 
 // What a line without its line end says. A line is any bytes.
+#[tactic(auto, unfolding(crate::specs::Lines::read_line))]
 pub fn read_line(line: &[u8]) -> Line
     ensures { result ≡ spec.read_line line.now }
 {
-    if line.len() == 0 {
-        return bare(Event::Other(Other::Nothing));
+    match line {
+        [] | [b'#', ..] => bare(Event::Other(Other::Nothing)),
+        _ => said(line).unwrap_or_else(bad),
     }
-    if line[0] == b'#' {
-        return bare(Event::Other(Other::Nothing));
-    }
+}
+
+// What a line says that isn't blank and no comment.
+#[tactic(auto, unfolding(crate::specs::Lines::said_in))]
+fn said(line: &[u8]) -> Result<Line, Reason>
+    ensures { result ≡ spec.said_in line.now }
+{
     if LONGEST < line.len() {
-        return bad(Reason::LineTooLong);
+        return Err(Reason::LineTooLong);
     }
-    if line[0] == b'(' {
+    if let [b'(', ..] = line {
         return heard(line);
     }
-    let table: &[u8] = &EVENTS;
-    let at = place(table, text::word(line, 0));
-    if at == table.len() {
-        return bad(Reason::NoSuchEvent);
-    }
-    let k = text::word_count(&table[..at]) / 2;
-    called(line, text::word(&table[at..], 1), k)
+    called(line)
 }
 
-// The event of row k. A start's line is read by its command.
-fn called(line: &[u8], shape: &[u8], k: usize) -> Line
-    ensures { result ≡ spec.called line.now shape.now k }
+// The event that the first word says. A start's line is read by its command.
+#[tactic(auto, unfolding(crate::specs::Lines::called))]
+fn called(line: &[u8]) -> Result<Line, Reason>
+    ensures { result ≡ spec.called line.now }
 {
-    if k == START {
-        return bare(started(line));
+    let row = row_of(&EVENTS, text::word(line, 0)).ok_or(Reason::NoSuchEvent)?;
+    if row == START {
+        return Ok(bare(Event::Call(started(line)?)));
     }
-    let args = arguments(line, shape);
-    let v = args.v;
-    match fit(line, shape, args.good) {
-        Fitting::Good => call_event(line, k, v),
-        Fitting::Bad(reason) => bad(reason),
-    }
+    let v = arguments(line, text::word(&EVENTS, 2 * row + 1))?;
+    Ok(call_event(line, row, v))
 }
 
+#[tactic(auto, unfolding(crate::specs::Lines::call_event))]
 fn call_event(line: &[u8], k: usize, v: [u64; 8]) -> Line
     ensures { result ≡ spec.call_event line.now k v }
 {

@@ -1,7 +1,9 @@
 // The words of a session, a table for each kind. Of commands and events a table has a row for each: its name, and the shape of
 // its line (see arguments), all of them words. The Rust has the commands' names and their order.
-ghost use Rattle.std.specs.Prelude.{◌≡◌, ◌≤◌, length};
-ghost use Rattle.session.specs.Table.{place_of};
+// Strings of words, no arrays of rows: answers prints by them, and its ReadBack (command-read-back) is over their text.
+ghost use Rattle.std.specs.Prelude.{◌≡◌, ◌<◌, IfSome, length};
+ghost use Rattle.session.specs.Table.{row_of};
+ghost use Rattle.text.specs.Words.{word_at, past_word};
 
 // The commands of a start, each with the shape of the whole line.
 pub const COMMANDS: [u8; 545] =
@@ -19,19 +21,33 @@ pub const MODES: [u8; 19] = *b"mit pp velocity csp";
 
 pub const KINDS: [u8; 17] = *b"i8 u8 u16 u32 f32";
 
-// Where the row of a name begins in a table; the table's length where no row has the name.
-pub(crate) fn place(table: &[u8], w: &[u8]) -> usize
-    ensures { (result ≡ place_of table.now w.now) × (result ≤ length table.now) }
+// The row of a name in a table, if one has it. A table has no more rows than bytes.
+#[tactic(auto, using(crate::proofs::Reading::rows_passed), unfolding(crate::specs::Table::row_of))]
+pub(crate) fn row_of(table: &[u8], w: &[u8]) -> Option<usize>
+    ensures row { result ≡ row_of table.now w.now }
+    ensures within { IfSome result (λ k. k < length table.now) }
 {
-    if table.len() == 0 {
-        return 0;
+    let mut rest = table;
+    for row in 0..table.len() {
+        if rest.is_empty() {
+            return None;
+        }
+        let (name, shape) = first_word(rest);
+        if w == name {
+            return Some(row);
+        }
+        rest = first_word(shape).1;
     }
-    let end = text::find(table, 0, table.len(), b' ');
-    if text::same_bytes(w, &table[..end]) {
-        return 0;
+    None
+}
+
+// The first word, and what follows its space: with one search what text's word and past_word take two for.
+fn first_word(s: &[u8]) -> (&[u8], &[u8])
+    ensures word { result.0.now ≡ word_at s.now 0 }
+    ensures rest { result.1.now ≡ past_word s.now }
+{
+    match text::position_of(s, b' ') {
+        Some(end) => (&s[..end], &s[end + 1..]),
+        None => (s, &s[s.len()..]),
     }
-    let shape = text::past(table, end);
-    let stop = text::find(shape, 0, shape.len(), b' ');
-    let rest = text::past(shape, stop);
-    (table.len() - rest.len()) + place(rest, w)
 }

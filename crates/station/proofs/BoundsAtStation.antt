@@ -1,10 +1,10 @@
 -- The bounds of an operation on the station: to the motor m a list of calls is a list of its own events, every other call being none of
 -- them (demand 3, call by call), so the motor's theorem bounds it. Assumes nothing.
+use Rattle.std.specs.Prelude.{Option, None, Some}
 use Prim.Native.Nat.{ℕ, ◌+◌, ◌≤◌, ◌<◌}
 use mathlib.Core.Path.{◌≡◌, refl, sym, ap, ◌∙◌, subst}
 use mathlib.Core.Bool.{Bool, true, false, true≢false, cond, not}
 use mathlib.Core.List.{List, [], ◌∷◌}
-use mathlib.Core.Option.{Option, none, some}
 use native.Mathlib.Omega.{arith}
 use Rattle.codec.specs.declared.bus.CanFrame.{CanFrame}
 use Rattle.motor.specs.declared.engine.command.Command.{Command}
@@ -43,7 +43,7 @@ moved_same s t e = ap said_in e
 
 waits-pausing : (before : List Asked) (m : ℕ) (h : Lone) (now d : ℕ)
     → let a = station_call (after empty before) (step m now) in
-    held (after empty before) m ≡ some h
+    held (after empty before) m ≡ Some h
     → h.state.operation.due ≤ now
     → a.0.replied.answer ≡ answer.Moved (said.Waiting d)
     → (now < d) × (h.state.operation.due < d) × (pauses_in (held a.1 m) ≡ true)
@@ -65,7 +65,7 @@ event-sends h (call.Frame now) f = refl
 event-sends h (call.Look m) f = refl
 event-sends h (call.Remove m now) f = refl
 
-event-due : (h : Lone) (c : Call) (f : CanFrame) → due_in (some h) c ≡ is_due h (event_by c f)
+event-due : (h : Lone) (c : Call) (f : CanFrame) → due_in (Some h) c ≡ is_due h (event_by c f)
 unfolding event_by
 event-due h (call.Register m host model wait time) f = refl
 event-due h (call.Start m c now) f = refl
@@ -85,12 +85,12 @@ more false false true a b e l = omega arith
 more false false false a b e l = omega arith
 
 module _ (m : ℕ) (test : List Place → Asked → Bool) (same : Lone → LoneEvent → Bool)
-    (alike : (s : List Place) (h : Lone) (a : Asked) → Distinct s → held s m ≡ some h → mine m a ≡ true → test s a ≡ same h (event_by a.call a.frame)) where
-  gone : (s : List Place) (cs : List Asked) → held s m ≡ none → tally m test s cs ≡ 0
+    (alike : (s : List Place) (h : Lone) (a : Asked) → Distinct s → held s m ≡ Some h → mine m a ≡ true → test s a ≡ same h (event_by a.call a.frame)) where
+  gone : (s : List Place) (cs : List Asked) → held s m ≡ None → tally m test s cs ≡ 0
   gone s [] e = refl
   gone s (a ∷ cs) e = rw e
 
-  as-events : (cs : List Asked) (s : List Place) (h : Lone) → Distinct s → held s m ≡ some h
+  as-events : (cs : List Asked) (s : List Place) (h : Lone) → Distinct s → held s m ≡ Some h
       → (es : List LoneEvent) × (tally m test s cs ≤ count same h es)
   as-events [] s h d e = ([], omega arith)
   as-events (a ∷ cs) s h d e = go (mine m a) refl (as-events cs)
@@ -102,7 +102,7 @@ module _ (m : ℕ) (test : List Place → Asked → Bool) (same : Lone → LoneE
       d' = call-distinct s a d
 
       IH : Type 0
-      IH = (s : List Place) (h : Lone) → Distinct s → held s m ≡ some h → (es : List LoneEvent) × (tally m test s cs ≤ count same h es)
+      IH = (s : List Place) (h : Lone) → Distinct s → held s m ≡ Some h → (es : List LoneEvent) × (tally m test s cs ≤ count same h es)
 
       idle : Bool
       idle = is_idle h.state.operation.phase
@@ -114,9 +114,9 @@ module _ (m : ℕ) (test : List Place → Asked → Bool) (same : Lone → LoneE
       Ends = (es : List LoneEvent) × (cond (not idle) (once (test s a) + tally m test s' cs) 0 ≤ count same h es)
 
       own : mine m a ≡ true → IH → (o : Option Lone) → (lone h a).1 ≡ o → held s' m ≡ o → Ends
-      own p ih none q r =
+      own p ih None q r =
           (ev ∷ [], more idle (test s a) (same h ev) (tally m test s' cs) 0 (λ t. sym (alike s h a d e p) ∙ t) (omega (arith, gone s' cs r)))
-      own p ih (some k) q r =
+      own p ih (Some k) q r =
           let x = ih s' k d' r in (
             ev ∷ x.0,
             more idle (test s a) (same h ev) (tally m test s' cs) (count same (then h ev) x.0) (λ t. sym (alike s h a d e p) ∙ t)
@@ -146,11 +146,11 @@ module _ (before : List Asked) (m : ℕ) (c : Command) (now : ℕ) (later : List
   unfolding mine_by
   is-mine = own-id m
 
-  sends-alike : (s : List Place) (h : Lone) (a : Asked) → Distinct s → held s m ≡ some h → mine m a ≡ true
+  sends-alike : (s : List Place) (h : Lone) (a : Asked) → Distinct s → held s m ≡ Some h → mine m a ≡ true
       → sends_to m s a ≡ sends h (event_by a.call a.frame)
   sends-alike s h a d e p = ap (λ (r : Reply). sends_in r.replied.answer) (own-call s m h a d e p).0 ∙ event-sends h a.call a.frame
 
-  due-alike : (s : List Place) (h : Lone) (a : Asked) → Distinct s → held s m ≡ some h → mine m a ≡ true
+  due-alike : (s : List Place) (h : Lone) (a : Asked) → Distinct s → held s m ≡ Some h → mine m a ≡ true
       → due_to m s a ≡ is_due h (event_by a.call a.frame)
   due-alike s h a d e p = ap (λ (o : Option Lone). due_in o a.call) e ∙ event-due h a.call a.frame
 
@@ -179,8 +179,8 @@ module _ (before : List Asked) (m : ℕ) where
   due-started c now = go (held (after empty before) m) refl
     where
       go : (o : Option Lone) → held (after empty before) m ≡ o → DueOf m now (station_call (after empty before) (start m c now))
-      go none e = rw (e, e) tt
-      go (some h) e =
+      go None e = rw (e, e) tt
+      go (Some h) e =
           let d = after-distinct empty before (distinct-free 8) in
           let l = own-call (after empty before) m h (start m c now) d e (own-id m) in
           let x = made before m h e in
@@ -191,8 +191,8 @@ module _ (before : List Asked) (m : ℕ) where
   due-stepped now = go (held (after empty before) m) refl
     where
       go : (o : Option Lone) → held (after empty before) m ≡ o → DueOf m now (station_call (after empty before) (step m now))
-      go none e = rw (e, e) tt
-      go (some h) e =
+      go None e = rw (e, e) tt
+      go (Some h) e =
           let d = after-distinct empty before (distinct-free 8) in
           let l = own-call (after empty before) m h (step m now) d e (own-id m) in
           let x = made before m h e in

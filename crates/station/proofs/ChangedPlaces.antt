@@ -1,12 +1,12 @@
 -- What 14 and 15, what 16, 17, 18 and 20, and what a removal change of the motor at their place: by the functions' first clauses, on
 -- any station. Assumes nothing.
+use Rattle.std.specs.Prelude.{Result, Ok, Err, ⊤}
 use Prim.Native.Nat.{ℕ}
 use mathlib.Core.Path.{◌≡◌, refl, sym, ap, ◌∙◌}
 use mathlib.Core.Bool.{true, true≢false}
 use mathlib.Core.List.{List}
+use Rattle.codec.specs.declared.error.Refusal.{Refusal}
 use Rattle.codec.specs.declared.bus.CanFrame.{CanFrame}
-use Rattle.codec.specs.declared.error.Checked.{Checked}
-use Rattle.codec.specs.declared.error.Checked.TheVariants as checked
 use Rattle.codec.specs.declared.error.Refusal.TheVariants as refusal
 use Rattle.codec.specs.Kinds.{among}
 use Rattle.motor.specs.declared.engine.command.Said.{Said}
@@ -46,11 +46,11 @@ motor-counted y f now =
     let put = put_of y.readings (read_id f) (read_stored f) in
     go (frame_said y.state f now (is_full put.said)) put.readings
   where
-    go : (k : Checked) (new : Readings) → among (number (answered k)) counting_numbers ≡ true
+    go : (k : Result ⊤ Refusal) (new : Readings) → among (number (answered k)) counting_numbers ≡ true
         → ◌≡◌ {A = Motor} (record { state = state_after k y.state f now; readings = readings_after k f new y.readings })
         (record { state = counted_at y.state now; readings = y.readings })
-    go checked.Passed new e = absurd (true≢false (sym e))
-    go (checked.Refused r) new e =
+    go (Ok tt) new e = absurd (true≢false (sym e))
+    go (Err r) new e =
         ap {B = Motor} (λ (a : State). record { state = a; readings = y.readings }) (cond_yes (counted_at y.state now) y.state e)
 
 module _ (st : Station) (f : CanFrame) (now : ℕ) where
@@ -60,7 +60,7 @@ module _ (st : Station) (f : CanFrame) (now : ℕ) where
   frame-raised : Raised (frame_in st f now)
   unfolding frame_in among
   frame-raised =
-      let other = tell st (checked.Refused refusal.FrameNotAccepted) in
+      let other = tell st (Err refusal.FrameNotAccepted) in
       let found : ℕ → After = λ i. heard_at st i (process_feedback_frame (motor_at st i) f now) in
       either Raised (accepts_frame (source_of f) f) (at_place st (source_of f) found other) other
       (at-place Raised st (source_of f) found other
@@ -94,15 +94,15 @@ motor-ended y now = go (step_said y.state.clock p now) refl (step_stays y.state.
     over (said.FinishedWith r) op x f b h e = absurd (true≢false (sym e))
     over (said.Refused r) op x f b h e = ap (λ (o : Operation). after o x) h.1 ∙ ap (λ (z : Effect). after no_operation z) h.2
 
-    go : (k : Checked) → step_said y.state.clock p now ≡ k → Stays k
+    go : (k : Result ⊤ Refusal) → step_said y.state.clock p now ≡ k → Stays k
         → among (number (says (step_by k y now).said (step_by k y now).frame (step_by k y now).result)) ending_numbers ≡ true
         → (step_by k y now).motor ≡ after no_operation effect.Nothing
-    go checked.Passed q s e =
+    go (Ok tt) q s e =
         let f = wanted p (λ id. find_of y.readings id) in
         let v = advanced (sight_of y.state) now y.state.operation f p in
         over v.said v.operation v.effect v.frame v.result
         (advance-ends (sight_of y.state) now y.state.operation f p (running (is_out_of_time y.state.clock now) (is_idle p) q)) e
-    go (checked.Refused r) q s e = absurd (true≢false (sym (moving r e) ∙ s))
+    go (Err r) q s e = absurd (true≢false (sym (moving r e) ∙ s))
 
 module _ (st : Station) (m now : ℕ) where
   abbrev Failed : After → Type 0
@@ -126,14 +126,14 @@ module _ (st : Station) (m now : ℕ) where
   abbrev Freed : After → Type 0
   Freed r = gives r.replied ≡ ok → r.station ≡ with_motor st (taken_place st.motors m) free_motor
 
-  removed-freed : (k : Checked) (i : ℕ) → i ≡ taken_place st.motors m → Freed (removed_at k st i)
-  removed-freed checked.Passed i p e = ap (λ (j : ℕ). with_motor st j free_motor) p
-  removed-freed (checked.Refused r) i p e = no_ok r e
+  removed-freed : (k : Result ⊤ Refusal) (i : ℕ) → i ≡ taken_place st.motors m → Freed (removed_at k st i)
+  removed-freed (Ok tt) i p e = ap (λ (j : ℕ). with_motor st j free_motor) p
+  removed-freed (Err r) i p e = no_ok r e
 
   remove-freed : Freed (remove_in st m now)
   unfolding remove_in
   remove-freed =
-      at-place Freed st m (λ i. removed_at (removal_of (motor_at st i) now) st i) (tell st (checked.Refused refusal.IdNotRegistered))
+      at-place Freed st m (λ i. removed_at (removal_of (motor_at st i) now) st i) (tell st (Err refusal.IdNotRegistered))
       (λ i p. removed-freed (removal_of (motor_at st i) now) i p)
       (λ e. no_ok refusal.IdNotRegistered e)
 

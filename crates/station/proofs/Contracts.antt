@@ -1,19 +1,20 @@
 -- What a call gives, by the definitions, is document 01's; and by the six functions' own contracts (Promises) it is what they return: a
 -- contract that is weakened or dropped breaks this file.
 -- Assumes nothing.
+use Rattle.std.specs.Prelude.{Result, Option, None, Some}
 use mathlib.Core.Path.{◌≡◌, refl, sym, ap, ◌∙◌, subst}
 use mathlib.Core.List.{List}
-use mathlib.Core.Option.{Option, none, some}
 use Prim.Native.Nat.{ℕ}
+use Rattle.codec.specs.declared.model.Model.{Model}
 use Rattle.codec.specs.declared.bus.CanFrame.{CanFrame}
 use Rattle.codec.specs.declared.error.Refusal.TheVariants as refusal
-use Rattle.codec.specs.declared.model.ModelNamed.{ModelNamed}
 use Rattle.motor.specs.Lone.{Lone, lone_look}
 use Rattle.station.specs.declared.call.Asked.{Asked}
 use Rattle.station.specs.declared.call.Call.{Call}
 use Rattle.station.specs.declared.call.Call.TheVariants as call
 use Rattle.station.specs.declared.station.After.{After}
-use Rattle.station.specs.declared.station.Looked.{Looked}
+use Rattle.codec.specs.declared.error.Refusal.{Refusal}
+use Rattle.motor.specs.declared.motor.Seen.{Seen}
 use Rattle.station.specs.declared.station.Station.{Station}
 use Rattle.station.specs.Calls.{Reply, shows, refused, refuses}
 use Rattle.station.specs.Station.{Place, held, lone_by, route, station_by, station_call}
@@ -28,7 +29,7 @@ after-follows : (st : Station) (r : After) (x : Reply × List Place) → LeavesA
 unfolding reply_in next
 after-follows st r x a = (a.answer, a.station)
 
-look-follows : (st : Station) (s : List Place) (m : ℕ) (f : CanFrame) (r : Looked) → Shows st s → (reply_of r, s) ≡ station_by s (call.Look m) f
+look-follows : (st : Station) (s : List Place) (m : ℕ) (f : CanFrame) (r : Result Seen Refusal) → Shows st s → (reply_of r, s) ≡ station_by s (call.Look m) f
     → Follows st (looked r) (station_by s (call.Look m) f)
 unfolding reply_in next
 look-follows st s m f r x e = (ap (λ (a : Reply × List Place). a.0) e, subst (λ (a : Reply × List Place). Shows st a.1) e x)
@@ -58,16 +59,16 @@ pub seen-is : (st : Station) (s : List Place) (m : ℕ) → Shows st s → seen 
 unfolding seen shown station_by route refused lone_by
 seen-is st s m x = ap (λ (a : Reply × List Place). a.0) (look-means st s x m) ∙ go (held s m)
   where
-    go : (o : Option Lone) → (route s m o (refuses (call.Look m) refusal.IdNotRegistered) (λ h. (shows (lone_look h), some h))).0 ≡ shown o
-    go none = refl
-    go (some h) = refl
+    go : (o : Option Lone) → (route s m o (refuses (call.Look m) refusal.IdNotRegistered) (λ h. (shows (lone_look h), Some h))).0 ≡ shown o
+    go None = refl
+    go (Some h) = refl
 
 -- ---- the functions' own contracts
 
 -- by the first clauses it is the definition's value
 gives-by : (st : Station) (c : Call) (f : CanFrame) (o : Out) → GivesBy st c f o → given_by st c f ≡ o
 unfolding given_by
-gives-by st (call.Register m h k w t) f (after r) g = ap {B = Out} after (sym (g.3.0 ∙ ap (λ (j : ModelNamed). register_in st m h j w t) g.2))
+gives-by st (call.Register m h k w t) f (after r) g = ap {B = Out} after (sym (g.3.0 ∙ ap (λ (j : Option Model). register_in st m h j w t) g.2))
 gives-by st (call.Register m h k w t) f (looked r) g = absurd g
 gives-by st (call.Start m c t) f (after r) g = ap {B = Out} after (sym g.0)
 gives-by st (call.Start m c t) f (looked r) g = absurd g
@@ -87,7 +88,7 @@ gives-given st a = gives-by st a.call a.frame
 means-by : (st : Station) (s : List Place) (c : Call) (f : CanFrame) (o : Out) → Shows st s → GivesBy st c f o → Follows st o (station_by s c f)
 unfolding station_by lone_by
 means-by st s (call.Register m h k w t) f (after r) x g =
-    after-follows st r _ (subst (λ (j : ModelNamed). LeavesAs r (station_by s (call.Register m h j w t) f)) g.2 (g.3.1 s x))
+    after-follows st r _ (subst (λ (j : Option Model). LeavesAs r (station_by s (call.Register m h j w t) f)) g.2 (g.3.1 s x))
 means-by st s (call.Register m h k w t) f (looked r) x g = absurd g
 means-by st s (call.Start m c t) f (after r) x g = after-follows st r _ (g.1 s x)
 means-by st s (call.Start m c t) f (looked r) x g = absurd g

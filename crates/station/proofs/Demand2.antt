@@ -1,13 +1,13 @@
 -- Demand 2, and what it says of the station over contracts: of any functions whose contracts give each call's reply and next station by
 -- the definitions, as the by-value and the lent ones do. Assumes nothing.
+use native.Mathlib.Omega.{arith}
+use Rattle.std.specs.Prelude.{Result, Ok, Err, Option, None, Some}
 use Prim.Native.Nat.{ℕ}
 use mathlib.Core.Path.{◌≡◌, refl, sym, ap, ◌∙◌, subst}
 use mathlib.Core.List.{List}
-use mathlib.Core.Option.{Option, none, some, none-ne-some, some-injective}
-use lib.ListN.{take}
 use lib.Seq.{take-append_seam}
-use Rattle.codec.specs.declared.error.Checked.{Checked}
-use Rattle.codec.specs.declared.error.Checked.TheVariants as checked
+use Rattle.codec.specs.Numbers.{said_in}
+use Rattle.codec.specs.declared.error.Refusal.{Refusal}
 use Rattle.codec.specs.declared.error.Refusal.TheVariants as refusal
 use Rattle.codec.specs.Values.{raw_of}
 use Rattle.motor.specs.declared.engine.command.Command.TheVariants as command
@@ -16,13 +16,13 @@ use Rattle.motor.specs.declared.readings.Entry.{Entry}
 use Rattle.motor.specs.Lone.{Lone, hears, lone_look}
 use Rattle.motor.specs.Readings.{lookup}
 use Rattle.motor.specs.Echo.{Carries}
+use Rattle.std.proofs.lemmas.Option.{none-some, same_Some}
 use Rattle.station.specs.declared.call.Asked.{Asked}
 use Rattle.station.specs.declared.call.Call.TheVariants as call
-use Rattle.station.specs.declared.station.Looked.{Looked}
 use Rattle.station.specs.declared.station.Station.{Station}
 use Rattle.station.specs.Calls.{start, frame, look, Reply, shows, refuses}
 use Rattle.station.specs.Station.{Place, empty, held, lone_by, route, source_of, station_by, station_call}
-use Rattle.station.specs.Stations.{Shows, shown_by, reply_of}
+use Rattle.station.specs.Stations.{Shows, reply_of}
 use Rattle.station.specs.History.{after}
 use Rattle.station.specs.Demand2.{unrefused, sent_in, reading, In, Demand2}
 use Rattle.station.specs.Code.{Out, looked, reply_in, next, given, readings_in, ending}
@@ -54,36 +54,39 @@ demand2 =
 
 -- ---- echo and held readings, as a look shows them
 
-seen-is : (l : Looked) (k : Checked) (v : Seen) → l.said ≡ k → (shown_by k l.seen).seen ≡ some v → (l.said ≡ checked.Passed) × (l.seen ≡ v)
-seen-is l checked.Passed v q e = (q, some-injective l.seen v e)
-seen-is l (checked.Refused n) v q e = absurd (none-ne-some v e)
+seen-is : (l : Result Seen Refusal) (v : Seen) → (reply_of l).seen ≡ Some v → l ≡ Ok v
+seen-is (Ok u) v e = ap (λ (w : Seen). Ok w) (same_Some u v e)
+seen-is (Err n) v e = absurd (none-some v e)
+
+refused-not : (l : Result Seen Refusal) → (reply_of l).seen ≡ None → said_in l ≡ Ok tt → ⊥
+refused-not (Ok u) e p = none-some u (sym e)
+refused-not (Err n) e p = let z : ◌≡◌ {A = ℕ} 0 1 = cc in absurd (omega arith)
 
 module _ (Gives : Station → Asked → Out → Type 0) (is-given : (st : Station) (a : Asked) (o : Out) → Gives st a o → given st a ≡ o) where
-  module _ (st : Station) (s : List Place) (x : Shows st s) (m : ℕ) (l : Looked) (g : Gives st (look m) (looked l)) where
+  module _ (st : Station) (s : List Place) (x : Shows st s) (m : ℕ) (l : Result Seen Refusal) (g : Gives st (look m) (looked l)) where
     -- a look's reply by what is held
     there : Option Lone → Reply
-    there o = (route s m o (refuses (call.Look m) refusal.IdNotRegistered) (λ h. (shows (lone_look h), some h))).0
+    there o = (route s m o (refuses (call.Look m) refusal.IdNotRegistered) (λ h. (shows (lone_look h), Some h))).0
 
     look-answers : (o : Option Lone) → held s m ≡ o → reply_of l ≡ there o
     unfolding there reply_in station_by lone_by
     look-answers o e = (one Gives is-given st s (look m) (looked l) x g).0 ∙ ap there e
 
     -- of a registered motor it shows the readings held
-    look-shows : (h : Lone) → held s m ≡ some h → (l.said ≡ checked.Passed) × (readings_in l ≡ h.readings)
+    look-shows : (h : Lone) → held s m ≡ Some h → (said_in l ≡ Ok tt) × (readings_in l ≡ h.readings)
     unfolding there route
     look-shows h e =
-        let b = seen-is l l.said (lone_look h) refl (ap (λ (r : Reply). r.seen) (look-answers (some h) e)) in
-        (b.0, ap (λ (v : Seen). take v.readings.count v.readings.entries) b.1 ∙ take-append_seam h.readings _)
+        let b = seen-is l (lone_look h) (ap (λ (r : Reply). r.seen) (look-answers (Some h) e)) in
+        (ap said_in b, ap readings_in b ∙ take-append_seam h.readings _)
 
     -- and where it isn't refused, the motor is registered
-    look-held : l.said ≡ checked.Passed → (h : Lone) × (held s m ≡ some h)
+    look-held : said_in l ≡ Ok tt → (h : Lone) × (held s m ≡ Some h)
     unfolding there route
     look-held p = go (held s m) refl
       where
-        go : (o : Option Lone) → held s m ≡ o → (h : Lone) × (held s m ≡ some h)
-        go none e =
-            absurd (none-ne-some l.seen (sym (ap (λ (r : Reply). r.seen) (look-answers none e)) ∙ ap (λ (k : Checked). (shown_by k l.seen).seen) p))
-        go (some h) e = (h, e)
+        go : (o : Option Lone) → held s m ≡ o → (h : Lone) × (held s m ≡ Some h)
+        go None e = absurd (refused-not l (ap (λ (r : Reply). r.seen) (look-answers None e)) p)
+        go (Some h) e = (h, e)
 
   code-echo : CodeEcho Gives
   unfolding reading
@@ -93,7 +96,7 @@ module _ (Gives : Station → Asked → Out → Type 0) (is-given : (st : Statio
       let k = taken_in t f later passed in
       let after = (station_call t (frame f later)).1 in
       let h = (hears k.by f later).lone in
-      let e : held after (source_of f) ≡ some h = ap (λ (q : List Place). held q (source_of f)) k.station ∙ put_some t (source_of f) k.by h k.was in
+      let e : held after (source_of f) ≡ Some h = ap (λ (q : List Place). held q (source_of f)) k.station ∙ put_some t (source_of f) k.by h k.was in
       let q = look-shows (next st r) after heard.1 (source_of f) l b h e in (
         q.0,
         ap (λ (es : List Entry). lookup id es) q.1

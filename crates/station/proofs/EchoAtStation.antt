@@ -1,20 +1,16 @@
 -- Echo on a station: a frame that isn't refused has gone to the motor that it comes from. And every write that a station sends, since each
 -- motor that is held asks what the encoder takes. Assumes nothing.
+use Rattle.std.specs.Prelude.{Some, None, Result, Ok, Err, ⊤, Option}
 use Prim.Native.Nat.{ℕ, zero, suc}
 use mathlib.Core.Path.{◌≡◌, refl, sym, ap, ◌∙◌, subst}
 use mathlib.Core.Bool.{Bool, true, false, true≢false, cond}
 use mathlib.Core.List.{List, [], ◌∷◌}
-use mathlib.Core.Option.{Option, none, some, none-ne-some, some-injective}
 use lib.Dec.{eqb}
 use lib.ListN.{replicate}
+use Rattle.codec.specs.declared.error.Refusal.{Refusal}
 use Rattle.codec.specs.declared.bus.CanFrame.{CanFrame}
-use Rattle.codec.specs.declared.error.Checked.{Checked}
-use Rattle.codec.specs.declared.error.Checked.TheVariants as checked
 use Rattle.codec.specs.declared.error.Refusal.TheVariants as refusal
 use Rattle.codec.specs.declared.model.Model.{Model}
-use Rattle.codec.specs.declared.model.ModelNamed.{ModelNamed}
-use Rattle.codec.specs.declared.model.ModelNamed.TheVariants as named
-use Rattle.codec.specs.declared.protocol.EncodedValue.TheVariants as encoded
 use Rattle.codec.specs.declared.protocol.ParameterValue.{ParameterValue}
 use Rattle.codec.specs.Values.{raw_of, encode_parameter_value, encode_parameter_write}
 use Rattle.motor.specs.declared.engine.command.Command.{Command}
@@ -27,6 +23,7 @@ use Rattle.motor.specs.Echo.{Carries}
 use Rattle.motor.specs.Writes.{Sent}
 use Rattle.motor.proofs.Echo.{accepted-raw, write-carries, echo_of}
 use Rattle.motor.proofs.Writes.{AsksEncoded, start-sends, step-sends, frame-asks}
+use Rattle.std.proofs.lemmas.Option.{none-some, same_Some}
 use Rattle.station.specs.declared.call.Asked.{Asked}
 use Rattle.station.specs.declared.call.Call.{Call}
 use Rattle.station.specs.declared.call.Call.TheVariants as call
@@ -36,16 +33,16 @@ use Rattle.station.specs.History.{after, answered_ok}
 use Rattle.station.specs.Demand2.{unrefused, sent_in, reading, Echo, EchoOfCall, Writes}
 
 -- what is put for a registered id is held for it
-pub put_some : (s : List Place) (m : ℕ) (h k : Lone) → held s m ≡ some h → held (put s m (some k)) m ≡ some k
+pub put_some : (s : List Place) (m : ℕ) (h k : Lone) → held s m ≡ Some h → held (put s m (Some k)) m ≡ Some k
 unfolding held put place
-put_some [] m h k e = absurd (none-ne-some h e)
+put_some [] m h k e = absurd (none-some h e)
 put_some (free ∷ s) m h k e = put_some s m h k e
 put_some (taken j i ∷ s) m h k e = go (eqb j m) refl e (put_some s m h k)
   where
-    go : (b : Bool) → eqb j m ≡ b → cond b (some i) (held s m) ≡ some h → (held s m ≡ some h → held (put s m (some k)) m ≡ some k)
-        → held (cond b (taken j k ∷ s) (taken j i ∷ put s m (some k))) m ≡ some k
-    go true p q ih = cond_yes (some k) (held s m) p
-    go false p q ih = cond_no (some i) (held (put s m (some k)) m) p ∙ ih q
+    go : (b : Bool) → eqb j m ≡ b → cond b (Some i) (held s m) ≡ Some h → (held s m ≡ Some h → held (put s m (Some k)) m ≡ Some k)
+        → held (cond b (taken j k ∷ s) (taken j i ∷ put s m (Some k))) m ≡ Some k
+    go true p q ih = cond_yes (Some k) (held s m) p
+    go false p q ih = cond_no (Some i) (held (put s m (Some k)) m) p ∙ ih q
 
 not-ok : {A : Type 0} (r : Reply) → answered_ok r.replied.answer ≡ false → r ≡ ok → A
 unfolding answered_ok
@@ -56,9 +53,9 @@ not-ok r e q = absurd (true≢false (sym (ap (λ (x : Reply). answered_ok x.repl
 pub record Taken (s : List Place) (f : CanFrame) (time : ℕ) : Type 0 where
   pub by : Lone
   pub accepted : accepts_frame (source_of f) f ≡ true
-  pub was : held s (source_of f) ≡ some by
-  pub passed : (hears by f time).said ≡ checked.Passed
-  pub station : (station_call s (frame f time)).1 ≡ put s (source_of f) (some (hears by f time).lone)
+  pub was : held s (source_of f) ≡ Some by
+  pub passed : (hears by f time).said ≡ Ok tt
+  pub station : (station_call s (frame f time)).1 ≡ put s (source_of f) (Some (hears by f time).lone)
 
 -- where a frame goes, by whether it is accepted and what is held for its source
 abbrev pub to : List Place → CanFrame → ℕ → Bool → Option Lone → Reply × List Place
@@ -69,14 +66,14 @@ pub taken_in : (s : List Place) (f : CanFrame) (time : ℕ) → (station_call s 
 unfolding station_by route refused lone_by hears_to answered_ok
 taken_in s f time e = go (accepts_frame (source_of f) f) (held s (source_of f)) refl refl e
   where
-    passes : (k : Checked) → answered k ≡ ok → k ≡ checked.Passed
-    passes checked.Passed q = refl
-    passes (checked.Refused r) q = not-ok (no r) refl q
+    passes : (k : Result ⊤ Refusal) → answered k ≡ ok → k ≡ Ok tt
+    passes (Ok tt) q = refl
+    passes (Err r) q = not-ok (no r) refl q
 
     go : (b : Bool) (o : Option Lone) → accepts_frame (source_of f) f ≡ b → held s (source_of f) ≡ o → (to s f time b o).0 ≡ ok → Taken s f time
     go false o p q e = not-ok (no refusal.FrameNotAccepted) refl e
-    go true none p q e = not-ok (no refusal.FrameNotAccepted) refl e
-    go true (some h) p q e =
+    go true None p q e = not-ok (no refusal.FrameNotAccepted) refl e
+    go true (Some h) p q e =
         record {
           by = h;
           accepted = p;
@@ -89,25 +86,25 @@ taken_in s f time e = go (accepts_frame (source_of f) f) (held s (source_of f)) 
 
 pub record Began (s : List Place) (m : ℕ) (c : Command) (time : ℕ) : Type 0 where
   pub by : Lone
-  pub was : held s m ≡ some by
-  pub passed : start_said by.state.clock by.state.operation.phase c time ≡ checked.Passed
+  pub was : held s m ≡ Some by
+  pub passed : start_said by.state.clock by.state.operation.phase c time ≡ Ok tt
   pub answer : sent_in (station_call s (start m c time)).0 ≡ (lone_start by c time).frame
 
 pub began : (s : List Place) (m : ℕ) (c : Command) (time : ℕ) → unrefused (station_call s (start m c time)).0 ≡ true → Began s m c time
 unfolding station_by route refused lone_by moves_to
 began s m c time e = go (held s m) refl e
   where
-    passes : (h : Lone) (k : Checked) → unrefused (says (lone_start_by k h c time).said (lone_start_by k h c time).frame (lone_start_by k h c time).result) ≡ true
-        → k ≡ checked.Passed
-    passes h checked.Passed q = refl
-    passes h (checked.Refused r) q = absurd (true≢false (sym q))
+    passes : (h : Lone) (k : Result ⊤ Refusal) → unrefused (says (lone_start_by k h c time).said (lone_start_by k h c time).frame (lone_start_by k h c time).result) ≡ true
+        → k ≡ Ok tt
+    passes h (Ok tt) q = refl
+    passes h (Err r) q = absurd (true≢false (sym q))
 
     there : Option Lone → Reply × List Place
     there o = route s m o (refuses (call.Start m c time) refusal.IdNotRegistered) (λ h. lone_by h (call.Start m c time) (start m c time).frame)
 
     go : (o : Option Lone) → held s m ≡ o → unrefused (there o).0 ≡ true → Began s m c time
-    go none p q = absurd (true≢false (sym q))
-    go (some h) p q =
+    go None p q = absurd (true≢false (sym q))
+    go (Some h) p q =
         record {
           by = h;
           was = p;
@@ -128,7 +125,7 @@ station-echo id raw v range e t f later read carries q =
 
 -- a call write_parameter that isn't refused: the encoder takes the value, and the frame carries the write of it
 pub record Wrote (s : List Place) (m id : ℕ) (v : ParameterValue) (time : ℕ) : Type 0 where
-  pub takes : encode_parameter_value id v ≡ encoded.Raw (raw_of v)
+  pub takes : encode_parameter_value id v ≡ Ok (raw_of v)
   pub carries : (sent_in (station_call s (start m (command.WriteParameter id v) time)).0).data ≡ encode_parameter_write id (raw_of v)
 
 pub wrote : (s : List Place) (m id : ℕ) (v : ParameterValue) (time : ℕ) → unrefused (station_call s (start m (command.WriteParameter id v) time)).0 ≡ true
@@ -156,28 +153,28 @@ module _
     (heard : (h : Lone) (f : CanFrame) (now : ℕ) → P h → P (hears h f now).lone)
   where
     abbrev KeptBy : Option Lone → Type 0
-    KeptBy none = Unit {0}
-    KeptBy (some h) = P h
+    KeptBy None = Unit {0}
+    KeptBy (Some h) = P h
 
     abbrev Kept : List Place → Type 0
     Kept [] = Unit {0}
     Kept (free ∷ s) = Kept s
     Kept (taken i h ∷ s) = P h × Kept s
 
-    kept-held : (s : List Place) (m : ℕ) (h : Lone) → Kept s → held s m ≡ some h → P h
+    kept-held : (s : List Place) (m : ℕ) (h : Lone) → Kept s → held s m ≡ Some h → P h
     unfolding held
-    kept-held [] m h a e = absurd (none-ne-some h e)
+    kept-held [] m h a e = absurd (none-some h e)
     kept-held (free ∷ s) m h a e = kept-held s m h a e
     kept-held (taken i k ∷ s) m h a e = go (eqb i m) e (kept-held s m h a.1)
       where
-        go : (b : Bool) → cond b (some k) (held s m) ≡ some h → (held s m ≡ some h → P h) → P h
-        go true q ih = subst P (some-injective k h q) a.0
+        go : (b : Bool) → cond b (Some k) (held s m) ≡ Some h → (held s m ≡ Some h → P h) → P h
+        go true q ih = subst P (same_Some k h q) a.0
         go false q ih = ih q
 
     kept-place : (i : ℕ) (o : Option Lone) (s : List Place) → KeptBy o → Kept s → Kept (place i o ∷ s)
     unfolding place
-    kept-place i none s p a = a
-    kept-place i (some h) s p a = (p, a)
+    kept-place i None s p a = a
+    kept-place i (Some h) s p a = (p, a)
 
     kept_put : (s : List Place) (m : ℕ) (o : Option Lone) → KeptBy o → Kept s → Kept (put s m o)
     unfolding put
@@ -204,21 +201,21 @@ module _
     kept-lone h (call.Look m) f p = p
     kept-lone h (call.Remove m now) f p = go (lone_removal h now)
       where
-        go : (k : Checked) → KeptBy (leaves h k)
-        go checked.Passed = tt
-        go (checked.Refused r) = p
+        go : (k : Result ⊤ Refusal) → KeptBy (leaves h k)
+        go (Ok tt) = tt
+        go (Err r) = p
 
     kept-route : (s : List Place) (m : ℕ) (o : Option Lone) (r : Reply) (c : Call) (f : CanFrame) → held s m ≡ o → Kept s
         → Kept (route s m o r (λ h. lone_by h c f)).1
     unfolding route
-    kept-route s m none r c f e a = a
-    kept-route s m (some h) r c f e a = kept_put s m (lone_by h c f).1 (kept-lone h c f (kept-held s m h a e)) a
+    kept-route s m None r c f e a = a
+    kept-route s m (Some h) r c f e a = kept_put s m (lone_by h c f).1 (kept-lone h c f (kept-held s m h a e)) a
 
-    kept-admit : (k : Checked) (s : List Place) (m host : ℕ) (model : ModelNamed) (wait time : ℕ) → Kept s → Kept (admit k s m host model wait time).1
+    kept-admit : (k : Result ⊤ Refusal) (s : List Place) (m host : ℕ) (model : Option Model) (wait time : ℕ) → Kept s → Kept (admit k s m host model wait time).1
     unfolding admit enter
-    kept-admit checked.Passed s m host (named.Known model) wait time a = kept-add s m (lone_new m host model wait time) (made m host model wait time) a
-    kept-admit checked.Passed s m host named.Unknown wait time a = a
-    kept-admit (checked.Refused r) s m host model wait time a = a
+    kept-admit (Ok tt) s m host (Some model) wait time a = kept-add s m (lone_new m host model wait time) (made m host model wait time) a
+    kept-admit (Ok tt) s m host None wait time a = a
+    kept-admit (Err r) s m host model wait time a = a
 
     kept-call : (s : List Place) (c : Call) (f : CanFrame) → Kept s → Kept (station_by s c f).1
     unfolding station_by
@@ -242,12 +239,12 @@ module _
     kept_free zero = tt
     kept_free (suc n) = kept_free n
 
-    kept : (cs : List Asked) (m : ℕ) (h : Lone) → held (after empty cs) m ≡ some h → P h
+    kept : (cs : List Asked) (m : ℕ) (h : Lone) → held (after empty cs) m ≡ Some h → P h
     unfolding empty
     kept cs m h e = kept-held (after empty cs) m h (kept-after empty cs (kept_free 8)) e
 
 -- the frame of a start or a step is the lone motor's
-frame-sent : (s : List Place) (m : ℕ) (h : Lone) (c : Call) (f : CanFrame) (a : LoneAnswered) → held s m ≡ some h → lone_by h c f ≡ moves_to a
+frame-sent : (s : List Place) (m : ℕ) (h : Lone) (c : Call) (f : CanFrame) (a : LoneAnswered) → held s m ≡ Some h → lone_by h c f ≡ moves_to a
     → sent_in (to_motor s m c f).0 ≡ a.frame
 unfolding route moves_to
 frame-sent s m h c f a e q =

@@ -1,16 +1,15 @@
 -- By the functions' first clauses a call leaves every other place the same value, on any station. Assumes nothing.
+use Rattle.std.specs.Prelude.{Result, Ok, Err, ⊤}
 use Prim.Native.Nat.{ℕ}
 use mathlib.Core.Path.{◌≡◌, refl, ◌∙◌}
 use mathlib.Core.Bool.{Bool, true, false, cond}
 use lib.Dec.{ltb}
 use lib.Seq.{get_or-set_other}
+use Rattle.codec.specs.declared.error.Refusal.{Refusal}
+use Rattle.codec.specs.declared.model.Model.{Model}
 use Rattle.codec.specs.declared.bus.CanFrame.{CanFrame}
-use Rattle.codec.specs.declared.error.Checked.{Checked}
-use Rattle.codec.specs.declared.error.Checked.TheVariants as checked
 use Rattle.codec.specs.declared.error.Refusal.TheVariants as refusal
 use Rattle.motor.specs.declared.motor.Motor.{Motor}
-use Rattle.motor.specs.declared.registration.Admission.{Admission}
-use Rattle.motor.specs.declared.registration.Admission.TheVariants as admission
 use Rattle.motor.specs.Calls.{registration_of}
 use Rattle.motor.specs.Motors.{new_motor, start_of, step_of, removal_of}
 use Rattle.motor.specs.Receive.{accepts_frame, process_feedback_frame}
@@ -48,26 +47,26 @@ module _ (st : Station) where
   put-there : (k i : ℕ) (y : Motor) → i ≡ k → SameBut k st (with_motor st i y)
   put-there k i y e j z = get_or-set_other st.motors i j y free_motor (λ q. z (q ∙ e))
 
-  removed-else : (k : Checked) (p i : ℕ) → i ≡ p → Else p (removed_at k st i)
-  removed-else checked.Passed p i e = put-there p i free_motor e
-  removed-else (checked.Refused r) p i e = λ j z. refl
+  removed-else : (k : Result ⊤ Refusal) (p i : ℕ) → i ≡ p → Else p (removed_at k st i)
+  removed-else (Ok tt) p i e = put-there p i free_motor e
+  removed-else (Err r) p i e = λ j z. refl
 
   entered-else : (m : Motor) → Else (place_of st.motors 0) (entered_in st m)
   unfolding entered_in
   entered-else m =
       let k = place_of st.motors 0 in
-      either (Else k) (ltb k 8) (tell (with_motor st k m) checked.Passed) (tell st (checked.Refused refusal.StationFull))
+      either (Else k) (ltb k 8) (tell (with_motor st k m) (Ok tt)) (tell st (Err refusal.StationFull))
       (put-there k k m refl)
       (λ j z. refl)
 
-  registered-else : (a : Admission) (id host wait time : ℕ) → Else (place_of st.motors 0) (register_by a st id host wait time)
+  registered-else : (a : Result Model Refusal) (id host wait time : ℕ) → Else (place_of st.motors 0) (register_by a st id host wait time)
   unfolding admitted_in
-  registered-else (admission.Admitted model) id host wait time =
-      at-place (Else (place_of st.motors 0)) st id (λ i. tell st (checked.Refused refusal.IdRegistered))
+  registered-else (Ok model) id host wait time =
+      at-place (Else (place_of st.motors 0)) st id (λ i. tell st (Err refusal.IdRegistered))
       (entered_in st (new_motor id host model wait time))
       (λ i p j z. refl)
       (entered-else (new_motor id host model wait time))
-  registered-else (admission.Refused r) id host wait time = λ j z. refl
+  registered-else (Err r) id host wait time = λ j z. refl
 
   given-else : (c : Call) (f : CanFrame) → SameBut (place_by st c f) st (next st (given_by st c f))
   unfolding given_by next place_by register_in start_in step_in frame_in remove_in
@@ -81,7 +80,7 @@ module _ (st : Station) where
       (λ i p. put-there _ i (step_of (motor_at st i) t).motor p)
       (λ j z. refl)
   given-else (call.Frame t) f =
-      let other = tell st (checked.Refused refusal.FrameNotAccepted) in
+      let other = tell st (Err refusal.FrameNotAccepted) in
       let found : ℕ → After = λ i. heard_at st i (process_feedback_frame (motor_at st i) f t) in
       either (Else (taken_place st.motors (source_of f))) (accepts_frame (source_of f) f) (at_place st (source_of f) found other) other
       (at-place (Else (taken_place st.motors (source_of f))) st (source_of f) found other
@@ -91,7 +90,7 @@ module _ (st : Station) where
   given-else (call.Look m) f = λ j z. refl
   given-else (call.Remove m t) f =
       at-place (Else (taken_place st.motors m)) st m (λ i. removed_at (removal_of (motor_at st i) t) st i)
-      (tell st (checked.Refused refusal.IdNotRegistered))
+      (tell st (Err refusal.IdNotRegistered))
       (λ i p. removed-else (removal_of (motor_at st i) t) (taken_place st.motors m) i p)
       (λ j z. refl)
 

@@ -1,21 +1,18 @@
 -- What is held for a motor came in replies that it accepted: no other call adds a reading. Assumes nothing.
+use Rattle.std.specs.Prelude.{Some, None, Result, Ok, Err, ⊤, Option}
 use Prim.Native.Nat.{ℕ, zero, suc, ◌<◌}
 use mathlib.Core.Path.{◌≡◌, refl, sym, ap, ◌∙◌, subst}
 use mathlib.Core.Bool.{Bool, true, false, true≢false, cond, not, ◌&&◌}
 use mathlib.Core.List.{List, [], ◌∷◌}
 use mathlib.Core.Logic.{inl, inr}
-use mathlib.Core.Option.{Option, none, some, none-ne-some, some-injective}
 use lib.Dec.{eqb, ltb}
 use lib.ListN.{get_or, replicate}
+use Rattle.codec.specs.declared.error.Refusal.{Refusal}
+use Rattle.codec.specs.declared.model.Model.{Model}
 use Rattle.codec.specs.declared.bus.CanFrame.{CanFrame}
-use Rattle.codec.specs.declared.error.Checked.{Checked}
-use Rattle.codec.specs.declared.error.Checked.TheVariants as checked
 use Rattle.codec.specs.declared.error.Refusal.TheVariants as refusal
 use Rattle.codec.specs.declared.model.Model.TheVariants.{Rs00}
-use Rattle.codec.specs.declared.model.ModelNamed.{ModelNamed}
-use Rattle.codec.specs.declared.model.ModelNamed.TheVariants as named
 use Rattle.codec.specs.declared.registers.ParameterDataType.{ParameterDataType}
-use Rattle.codec.specs.declared.registers.ParameterInfo.TheVariants as info
 use Rattle.codec.specs.Kinds.{parameter_info}
 use Rattle.codec.specs.Values.{kind_in}
 use Rattle.motor.specs.declared.engine.command.Command.{Command}
@@ -31,6 +28,7 @@ use Rattle.motor.specs.Receive.{accepts_frame, is_out_of_time, is_read, read_sta
 use Rattle.motor.specs.Echo.{held_kind, WrittenOut}
 use Rattle.motor.proofs.Echo.{heard-held, written_out}
 use Rattle.motor.proofs.ReceivingTheorems.{kinds-held}
+use Rattle.std.proofs.lemmas.Option.{none-some, same_Some}
 use Rattle.station.specs.declared.call.Asked.{Asked}
 use Rattle.station.specs.declared.call.Call.{Call}
 use Rattle.station.specs.declared.call.Call.TheVariants as call
@@ -85,34 +83,34 @@ module _ (P : Entry → Type 0) where
   each-moved effect.ForgetFault l a = a
   each-moved (effect.HoldGains g) l a = a
 
-  each_start : (k : Checked) (h : Lone) (c : Command) (now : ℕ) → Each P h.readings → Each P (lone_start_by k h c now).lone.readings
-  each_start checked.Passed h c now a = each-moved (begun_by (sight_of h.state) now c).effect h.readings a
-  each_start (checked.Refused r) h c now a = a
+  each_start : (k : Result ⊤ Refusal) (h : Lone) (c : Command) (now : ℕ) → Each P h.readings → Each P (lone_start_by k h c now).lone.readings
+  each_start (Ok tt) h c now a = each-moved (begun_by (sight_of h.state) now c).effect h.readings a
+  each_start (Err r) h c now a = a
 
-  each_step : (k : Checked) (h : Lone) (now : ℕ) → Each P h.readings → Each P (lone_step_by k h now).lone.readings
-  each_step checked.Passed h now a =
+  each_step : (k : Result ⊤ Refusal) (h : Lone) (now : ℕ) → Each P h.readings → Each P (lone_step_by k h now).lone.readings
+  each_step (Ok tt) h now a =
       let op = h.state.operation in
       each-moved (advanced (sight_of h.state) now op (wanted op.phase (λ id. lookup id h.readings)) op.phase).effect h.readings a
-  each_step (checked.Refused r) h now a = a
+  each_step (Err r) h now a = a
 
   each-heard : (h : Lone) (f : CanFrame) (now : ℕ)
-      → ((hears h f now).said ≡ checked.Passed → is_read f ≡ true → P (entry (read_id f) (read_stored f)))
+      → ((hears h f now).said ≡ Ok tt → is_read f ≡ true → P (entry (read_id f) (read_stored f)))
       → Each P h.readings → Each P (hears h f now).lone.readings
   unfolding hears readings_after
   each-heard h f now p a = go (frame_said h.state f now (not (room (read_id f) h.readings))) (is_read f) refl refl
     where
-      go : (k : Checked) (b : Bool) → frame_said h.state f now (not (room (read_id f) h.readings)) ≡ k → is_read f ≡ b
+      go : (k : Result ⊤ Refusal) (b : Bool) → frame_said h.state f now (not (room (read_id f) h.readings)) ≡ k → is_read f ≡ b
           → Each P (readings_after k f (insert (read_id f) (read_stored f) h.readings) h.readings)
-      go checked.Passed true q r = subst (λ (b : Bool). Each P (cond b (insert (read_id f) (read_stored f) h.readings) h.readings)) (sym r) (each-insert P f h.readings (p q r) a)
-      go checked.Passed false q r = subst (λ (b : Bool). Each P (cond b (insert (read_id f) (read_stored f) h.readings) h.readings)) (sym r) a
-      go (checked.Refused n) b q r = a
+      go (Ok tt) true q r = subst (λ (b : Bool). Each P (cond b (insert (read_id f) (read_stored f) h.readings) h.readings)) (sym r) (each-insert P f h.readings (p q r) a)
+      go (Ok tt) false q r = subst (λ (b : Bool). Each P (cond b (insert (read_id f) (read_stored f) h.readings) h.readings)) (sym r) a
+      go (Err n) b q r = a
 
   -- of none there is nothing to say
   abbrev EachOf : Option Lone → Type 0
-  EachOf none = Unit {0}
-  EachOf (some h) = Each P h.readings
+  EachOf None = Unit {0}
+  EachOf (Some h) = Each P h.readings
 
-  each-lone : (h : Lone) (c : Call) (f : CanFrame) → OfFrame (λ now. (hears h f now).said ≡ checked.Passed → is_read f ≡ true → P (entry (read_id f) (read_stored f))) c
+  each-lone : (h : Lone) (c : Call) (f : CanFrame) → OfFrame (λ now. (hears h f now).said ≡ Ok tt → is_read f ≡ true → P (entry (read_id f) (read_stored f))) c
       → Each P h.readings → EachOf (lone_by h c f).1
   unfolding lone_by moves_to hears_to leaves
   each-lone h (call.Register m host model wait time) f p a = a
@@ -122,9 +120,9 @@ module _ (P : Entry → Type 0) where
   each-lone h (call.Look m) f p a = a
   each-lone h (call.Remove m now) f p a = go (lone_removal h now)
     where
-      go : (k : Checked) → EachOf (leaves h k)
-      go checked.Passed = tt
-      go (checked.Refused r) = a
+      go : (k : Result ⊤ Refusal) → EachOf (leaves h k)
+      go (Ok tt) = tt
+      go (Err r) = a
 
 -- ---- the station: of every motor's entries
 
@@ -140,14 +138,14 @@ Frames P s c f =
     → P (source_of f) (entry (read_id f) (read_stored f))) c
 
 -- a read reply that passes has status zero
-zero-status : (h : Lone) (f : CanFrame) (now : ℕ) → (hears h f now).said ≡ checked.Passed → is_read f ≡ true → read_status f ≡ 0
+zero-status : (h : Lone) (f : CanFrame) (now : ℕ) → (hears h f now).said ≡ Ok tt → is_read f ≡ true → read_status f ≡ 0
 unfolding hears frame_said
 zero-status h f now e r =
     same_id (read_status f) 0
     (go (not (accepts_frame h.state.motor_id f)) (is_out_of_time h.state.clock now) (is_read f) (eqb (read_status f) 0) (not (room (read_id f) h.readings)) r e)
   where
     go : (a b c d e : Bool) → c ≡ true
-        → first_of ((a, refusal.FrameNotAccepted) ∷ (b, refusal.TimeOutOfRange) ∷ (c && not d, refusal.ReadFailed (read_id f) (read_status f)) ∷ (c && e, refusal.ReadingsFull) ∷ []) ≡ checked.Passed
+        → first_of ((a, refusal.FrameNotAccepted) ∷ (b, refusal.TimeOutOfRange) ∷ (c && not d, refusal.ReadFailed (read_id f) (read_status f)) ∷ (c && e, refusal.ReadingsFull) ∷ []) ≡ Ok tt
         → d ≡ true
     go true b c d e q p = refused-passed refusal.FrameNotAccepted p
     go false true c d e q p = refused-passed refusal.TimeOutOfRange p
@@ -156,20 +154,20 @@ zero-status h f now e r =
     go false false true false e q p = refused-passed (refusal.ReadFailed (read_id f) (read_status f)) p
 
 module _ (P : ℕ → Entry → Type 0) where
-  each-held : (s : List Place) (m : ℕ) (h : Lone) → EachAt P s → held s m ≡ some h → Each (P m) h.readings
+  each-held : (s : List Place) (m : ℕ) (h : Lone) → EachAt P s → held s m ≡ Some h → Each (P m) h.readings
   unfolding held
-  each-held [] m h a e = absurd (none-ne-some h e)
+  each-held [] m h a e = absurd (none-some h e)
   each-held (free ∷ s) m h a e = each-held s m h a e
   each-held (taken i k ∷ s) m h a e = go (eqb i m) refl e (each-held s m h a.1)
     where
-      go : (b : Bool) → eqb i m ≡ b → cond b (some k) (held s m) ≡ some h → (held s m ≡ some h → Each (P m) h.readings) → Each (P m) h.readings
-      go true p q ih = subst (λ (x : Lone). Each (P m) x.readings) (some-injective k h q) (subst (λ (n : ℕ). Each (P n) k.readings) (same_id i m p) a.0)
+      go : (b : Bool) → eqb i m ≡ b → cond b (Some k) (held s m) ≡ Some h → (held s m ≡ Some h → Each (P m) h.readings) → Each (P m) h.readings
+      go true p q ih = subst (λ (x : Lone). Each (P m) x.readings) (same_Some k h q) (subst (λ (n : ℕ). Each (P n) k.readings) (same_id i m p) a.0)
       go false p q ih = ih q
 
   each-place : (i : ℕ) (o : Option Lone) (s : List Place) → EachOf (P i) o → EachAt P s → EachAt P (place i o ∷ s)
   unfolding place
-  each-place i none s p a = a
-  each-place i (some h) s p a = (p, a)
+  each-place i None s p a = a
+  each-place i (Some h) s p a = (p, a)
 
   each-put : (s : List Place) (m : ℕ) (o : Option Lone) → EachOf (P m) o → EachAt P s → EachAt P (put s m o)
   unfolding put
@@ -188,17 +186,17 @@ module _ (P : ℕ → Entry → Type 0) where
   each-add (taken i k ∷ s) m h p a = (a.0, each-add s m h p a.1)
 
   each-route : (s : List Place) (m : ℕ) (o : Option Lone) (r : Reply) (c : Call) (f : CanFrame) → held s m ≡ o
-      → ((h : Lone) → o ≡ some h → OfFrame (λ now. (hears h f now).said ≡ checked.Passed → is_read f ≡ true → P m (entry (read_id f) (read_stored f))) c)
+      → ((h : Lone) → o ≡ Some h → OfFrame (λ now. (hears h f now).said ≡ Ok tt → is_read f ≡ true → P m (entry (read_id f) (read_stored f))) c)
       → EachAt P s → EachAt P (route s m o r (λ h. lone_by h c f)).1
   unfolding route
-  each-route s m none r c f e p a = a
-  each-route s m (some h) r c f e p a = each-put s m (lone_by h c f).1 (each-lone (P m) h c f (p h refl) (each-held s m h a e)) a
+  each-route s m None r c f e p a = a
+  each-route s m (Some h) r c f e p a = each-put s m (lone_by h c f).1 (each-lone (P m) h c f (p h refl) (each-held s m h a e)) a
 
-  each-admit : (k : Checked) (s : List Place) (m host : ℕ) (model : ModelNamed) (wait time : ℕ) → EachAt P s → EachAt P (admit k s m host model wait time).1
+  each-admit : (k : Result ⊤ Refusal) (s : List Place) (m host : ℕ) (model : Option Model) (wait time : ℕ) → EachAt P s → EachAt P (admit k s m host model wait time).1
   unfolding admit enter
-  each-admit checked.Passed s m host (named.Known model) wait time a = each-add s m (lone_new m host model wait time) tt a
-  each-admit checked.Passed s m host named.Unknown wait time a = a
-  each-admit (checked.Refused r) s m host model wait time a = a
+  each-admit (Ok tt) s m host (Some model) wait time a = each-add s m (lone_new m host model wait time) tt a
+  each-admit (Ok tt) s m host None wait time a = a
+  each-admit (Err r) s m host model wait time a = a
 
   each-frame : (s : List Place) (f : CanFrame) (time : ℕ) → Frames P s (call.Frame time) f → EachAt P s → EachAt P (station_by s (call.Frame time) f).1
   unfolding station_by route lone_by hears_to
@@ -248,7 +246,7 @@ module _ (P : ℕ → Entry → Type 0) where
 -- ---- a reading that came in a reply
 
 -- a lone motor that takes the reply
-passes : (m : ℕ) (f : CanFrame) → accepts_frame m f ≡ true → is_read f ≡ true → read_status f ≡ 0 → (hears (lone_new m 0 Rs00 0 0) f 0).said ≡ checked.Passed
+passes : (m : ℕ) (f : CanFrame) → accepts_frame m f ≡ true → is_read f ≡ true → read_status f ≡ 0 → (hears (lone_new m 0 Rs00 0 0) f 0).said ≡ Ok tt
 unfolding hears frame_said is_out_of_time
 passes m f a r z = rw (a, r, z)
 
@@ -260,7 +258,7 @@ read_as m told e c =
       came = c;
       kind = subst (λ (x : Entry). kind_in x.held.value ≡ held_kind x.id) c.same (kinds-held f);
       written_out =
-          subst (λ (x : Entry). (k : ParameterDataType) → parameter_info x.id ≡ info.Listed k → ((i : ℕ) → get_or f.data i 0 < 256)
+          subst (λ (x : Entry). (k : ParameterDataType) → parameter_info x.id ≡ Some k → ((i : ℕ) → get_or f.data i 0 < 256)
           → WrittenOut x.id x.held.value k f.data) c.same
           (λ k listed small.
           written_out (lone_new m 0 Rs00 0 0) f 0 c.read p small k listed (read_stored f) (heard-held (lone_new m 0 Rs00 0 0) f 0 c.read p));

@@ -1,19 +1,17 @@
 -- The place of an id in the array, and what document 01's station holds there. Assumes nothing.
+use Rattle.std.specs.Prelude.{Option, None, Some}
 use mathlib.Core.Path.{◌≡◌, refl, sym, ap, ◌∙◌, subst}
 use mathlib.Core.Bool.{Bool, true, false, cond}
 use mathlib.Core.List.{List, [], ◌∷◌}
-use mathlib.Core.Option.{Option, none, some}
-use Prim.Native.Nat.{ℕ, zero, suc, ◌+◌, ◌≤◌, ◌<◌}
+use Prim.Native.Nat.{ℕ, zero, suc, ◌≤◌, ◌<◌}
 use native.Mathlib.Nat.{le_of_suc-le-suc, not-suc-le-zero}
-use native.Mathlib.Omega.{arith}
-use native.Mathlib.Numerals.{add-one}
 use lib.Dec.{eqb}
-use lib.ListN.{length, get_or, drop, set, replicate}
+use lib.ListN.{length, get_or, set, replicate}
 use Rattle.motor.specs.declared.motor.Motor.{Motor}
 use Rattle.motor.specs.Lone.{Lone}
 use Rattle.station.specs.Station.{Place, free, taken, held, put, place, add, full}
 use Rattle.station.specs.Stations.{free_motor, place_of, TakenAs, PlaceAs, PlacesAs}
-use Rattle.station.proofs.Places.{same_id, own-id}
+use Rattle.station.proofs.Places.{same_id}
 
 pub not_same : (a b : ℕ) → (a ≡ b → ⊥) → eqb a b ≡ false
 not_same a b z = go (eqb a b) refl
@@ -21,37 +19,6 @@ not_same a b z = go (eqb a b) refl
     go : (t : Bool) → eqb a b ≡ t → eqb a b ≡ false
     go true p = absurd (z (same_id a b p))
     go false p = p
-
--- ---- the search for a place
-
--- within the array, what a read past the end gives doesn't matter
-pub get_d_any : (xs : List Motor) (i : ℕ) (d e : Motor) → i < length xs → get_or xs i d ≡ get_or xs i e
-get_d_any [] i d e h = absurd (not-suc-le-zero h)
-get_d_any (x ∷ xs) zero d e h = refl
-get_d_any (x ∷ xs) (suc i) d e h = get_d_any xs i d e (le_of_suc-le-suc h)
-
--- a place that is passed over
-pub past : (xs : List Motor) (i m : ℕ) (d : Motor) → i < length xs → ((get_or xs i d).state.motor_id ≡ m → ⊥)
-    → i + place_of (drop i xs) m ≡ i + 1 + place_of (drop (i + 1) xs) m
-unfolding place_of
-past xs i m d h e = rw add-one (go xs i h e)
-  where
-    go : (xs : List Motor) (i : ℕ) → i < length xs → ((get_or xs i d).state.motor_id ≡ m → ⊥)
-        → i + place_of (drop i xs) m ≡ suc i + place_of (drop (suc i) xs) m
-    go [] i h e = absurd (not-suc-le-zero h)
-    go (x ∷ xs) zero h e = rw (not_same x.state.motor_id m e) (omega arith)
-    go (x ∷ xs) (suc i) h e = omega (arith, go xs i (le_of_suc-le-suc h) e)
-
-pub hit : (xs : List Motor) (i m : ℕ) (d : Motor) → i < length xs → (get_or xs i d).state.motor_id ≡ m → place_of (drop i xs) m ≡ 0
-unfolding place_of
-hit [] i m d h e = absurd (not-suc-le-zero h)
-hit (x ∷ xs) zero m d h e = rw (e, own-id m)
-hit (x ∷ xs) (suc i) m d h e = hit xs i m d (le_of_suc-le-suc h) e
-
-pub at-end : (xs : List Motor) (m : ℕ) → place_of (drop (length xs) xs) m ≡ 0
-unfolding place_of
-at-end [] m = refl
-at-end (x ∷ xs) m = at-end xs m
 
 -- ---- what is held there
 
@@ -64,10 +31,10 @@ free_other x m e z = not_same x.state.motor_id m (λ q. z (sym q ∙ free-id x e
 
 -- the motor at a place, and the lone motor held there
 abbrev pub Found : List Place → ℕ → Motor → Type 0
-Found s m x = (h : Lone) × (held s m ≡ some h) × TakenAs x m h
+Found s m x = (h : Lone) × (held s m ≡ Some h) × TakenAs x m h
 
 module _ (m : ℕ) (z : m ≡ 0 → ⊥) where
-  pub held_none : (xs : List Motor) (s : List Place) → PlacesAs xs s → length xs ≤ place_of xs m → held s m ≡ none
+  pub held_none : (xs : List Motor) (s : List Place) → PlacesAs xs s → length xs ≤ place_of xs m → held s m ≡ None
   unfolding place_of held
   held_none [] [] q h = refl
   held_none [] (p ∷ s) q h = absurd q
@@ -75,7 +42,7 @@ module _ (m : ℕ) (z : m ≡ 0 → ⊥) where
   held_none (x ∷ xs) (free ∷ s) q h = held_none xs s q.1 (le_of_suc-le-suc (rw (free_other x m q.0 z) at h))
   held_none (x ∷ xs) (taken i k ∷ s) q h = go (eqb i m) refl (held_none xs s q.1)
     where
-      go : (b : Bool) → eqb i m ≡ b → (length xs ≤ place_of xs m → held s m ≡ none) → held (taken i k ∷ s) m ≡ none
+      go : (b : Bool) → eqb i m ≡ b → (length xs ≤ place_of xs m → held s m ≡ None) → held (taken i k ∷ s) m ≡ None
       go true p ih = absurd (not-suc-le-zero (rw (q.0.id, p) at h))
       go false p ih = rw p (ih (le_of_suc-le-suc (rw (q.0.id, p) at h)))
 
@@ -121,7 +88,7 @@ module _ (m : ℕ) (z : m ≡ 0 → ⊥) where
           rw (e, p) (q.0, ih (le_of_suc-le-suc (rw e at h)) w)
 
 -- nothing is held for the id 0
-pub held-zero : (xs : List Motor) (s : List Place) → PlacesAs xs s → held s 0 ≡ none
+pub held-zero : (xs : List Motor) (s : List Place) → PlacesAs xs s → held s 0 ≡ None
 unfolding held
 held-zero [] [] q = refl
 held-zero [] (p ∷ s) q = absurd q

@@ -1,9 +1,9 @@
 -- Demand 1 over contracts: of any functions whose contracts give each call's reply and next station by the definitions. Assumes nothing.
+use Rattle.std.specs.Prelude.{Option, None, Some}
 use Prim.Native.Nat.{ℕ}
 use mathlib.Core.Path.{◌≡◌, sym, ap, ◌∙◌, subst}
 use mathlib.Core.Bool.{true, false}
 use mathlib.Core.List.{List, ◌∷◌}
-use mathlib.Core.Option.{Option, none, some}
 use Rattle.codec.specs.Kinds.{among}
 use Rattle.motor.specs.Lone.{Lone}
 use Rattle.station.specs.declared.call.Asked.{Asked}
@@ -42,11 +42,11 @@ module _ (Gives : Station → Asked → Out → Type 0) (is-given : (st : Statio
     code-kept d =
         record {
           others = λ a o g m e. seen-after a o g m (held s m) (λ r. Unit {0}) (λ u. demand1.others s m a e) tt ∙ sym (seen-is st s m x);
-          freed = λ m now o g. seen-after (remove m now) o g m none (λ r. r ≡ ok) (demand1.freed s m now d);
+          freed = λ m now o g. seen-after (remove m now) o g m None (λ r. r ≡ ok) (demand1.freed s m now d);
           counted = λ f now o h g q.
-              seen-after (frame f now) o g (source_of f) (some (raised h now)) (λ r. among (number r) counting_numbers ≡ true) (demand1.counted s f now h d q);
+              seen-after (frame f now) o g (source_of f) (Some (raised h now)) (λ r. among (number r) counting_numbers ≡ true) (demand1.counted s f now h d q);
           ended = λ m now o h g q.
-              seen-after (step m now) o g m (some (failed h now)) (λ r. among (number r) ending_numbers ≡ true) (demand1.ended s m now h d q);
+              seen-after (step m now) o g m (Some (failed h now)) (λ r. among (number r) ending_numbers ≡ true) (demand1.ended s m now h d q);
           numbers = λ a o g. says_so a o g (λ r. among (number r) (numbers_of a.call) ≡ true) (demand1.numbers s a);
           start-numbers = λ m c now o g.
               says_so (start m c now) o g (λ r. among (number r) (21 ∷ moving_numbers) ≡ false) (demand1.start-numbers s m c now);

@@ -2,10 +2,11 @@ pub mod Places
 pub mod Steps
 pub mod TwoRuns
 pub mod Index
+pub mod Found
+pub mod Lending
 pub mod Standing
 pub mod Admitting
 pub mod Meanings
-pub mod Clauses
 pub mod Promises
 pub mod Contracts
 pub mod Promised

@@ -1,14 +1,13 @@
 -- On a good station each call is document 01's, and leaves a good station. Assumes nothing.
+use Rattle.std.specs.Prelude.{Option, Result, Ok, Err, ⊤, None, Some}
 use mathlib.Core.Path.{◌≡◌, refl, sym, ap, ◌∙◌, subst}
 use mathlib.Core.Bool.{Bool, true, false, cond}
 use mathlib.Core.List.{List}
-use mathlib.Core.Option.{none, some}
 use Prim.Native.Nat.{ℕ, ◌<◌}
 use lib.ListN.{length}
+use Rattle.codec.specs.declared.error.Refusal.{Refusal}
+use Rattle.codec.specs.declared.model.Model.{Model}
 use Rattle.codec.specs.declared.bus.CanFrame.{CanFrame}
-use Rattle.codec.specs.declared.error.Checked.{Checked}
-use Rattle.codec.specs.declared.error.Checked.TheVariants as checked
-use Rattle.codec.specs.declared.model.ModelNamed.{ModelNamed}
 use Rattle.codec.specs.Refusals.{number_of}
 use Rattle.codec.specs.Kinds.{among}
 use Rattle.motor.specs.declared.engine.command.Command.{Command}
@@ -51,18 +50,18 @@ lone-at : (x : Motor) (m : ℕ) (h : Lone) → TakenAs x m h → lone_of x h.rea
 lone-at x m h t = ap (λ (a : State). record { state = a; readings = h.readings }) t.state
 
 -- a motor that has taken a call keeps its id
-start-id : (k : Checked) (m : Motor) (c : Command) (now : ℕ) → (start_by k m c now).motor.state.motor_id ≡ m.state.motor_id
-start-id checked.Passed m c now = refl
-start-id (checked.Refused r) m c now = refl
+start-id : (k : Result ⊤ Refusal) (m : Motor) (c : Command) (now : ℕ) → (start_by k m c now).motor.state.motor_id ≡ m.state.motor_id
+start-id (Ok tt) m c now = refl
+start-id (Err r) m c now = refl
 
-step-id : (k : Checked) (m : Motor) (now : ℕ) → (step_by k m now).motor.state.motor_id ≡ m.state.motor_id
-step-id checked.Passed m now = refl
-step-id (checked.Refused r) m now = refl
+step-id : (k : Result ⊤ Refusal) (m : Motor) (now : ℕ) → (step_by k m now).motor.state.motor_id ≡ m.state.motor_id
+step-id (Ok tt) m now = refl
+step-id (Err r) m now = refl
 
-hear-id : (k : Checked) (a : State) (f : CanFrame) (now : ℕ) → (state_after k a f now).motor_id ≡ a.motor_id
+hear-id : (k : Result ⊤ Refusal) (a : State) (f : CanFrame) (now : ℕ) → (state_after k a f now).motor_id ≡ a.motor_id
 unfolding state_after tells answer_taken counted_at
-hear-id checked.Passed a f now = either-rule (λ (s : State). s.motor_id ≡ a.motor_id) (counted_at a now) f refl refl
-hear-id (checked.Refused r) a f now = go (among (number_of r) counting_numbers)
+hear-id (Ok tt) a f now = either-rule (λ (s : State). s.motor_id ≡ a.motor_id) (counted_at a now) f refl refl
+hear-id (Err r) a f now = go (among (number_of r) counting_numbers)
   where
     go : (b : Bool) → (cond b (counted_at a now) a).motor_id ≡ a.motor_id
     go true = refl
@@ -71,29 +70,29 @@ hear-id (checked.Refused r) a f now = go (among (number_of r) counting_numbers)
 module _ (st : Station) (s : List Place) (x : Shows st s) (m : ℕ) (z : m ≡ 0 → ⊥) (e : taken_place st.motors m ≡ place_of st.motors m)
     (l : place_of st.motors m < length st.motors) where
   moved-means : (a : Answered) (b : LoneAnswered) → AnsweredAs a b → a.motor.state.motor_id ≡ m
-      → LeavesAs (moved_at st (taken_place st.motors m) a) (says b.said b.frame b.result, put s m (some b.lone))
+      → LeavesAs (moved_at st (taken_place st.motors m) a) (says b.said b.frame b.result, put s m (Some b.lone))
   unfolding place
   moved-means a b w i =
       record {
         answer = rw (w.said, w.frame, w.result);
-        station = shows-put st s x m z e l (some b.lone) a.motor (record { id = i; registered = z; state = w.state; readings = w.readings });
+        station = shows-put st s x m z e l (Some b.lone) a.motor (record { id = i; registered = z; state = w.state; readings = w.readings });
       }
 
   heard-means : (a : Heard) (b : LoneHeard) → HeardAs a b → a.motor.state.motor_id ≡ m
-      → LeavesAs (heard_at st (taken_place st.motors m) a) (answered b.said, put s m (some b.lone))
+      → LeavesAs (heard_at st (taken_place st.motors m) a) (answered b.said, put s m (Some b.lone))
   unfolding place
   heard-means a b w i =
       record {
         answer = rw w.said;
-        station = shows-put st s x m z e l (some b.lone) a.motor (record { id = i; registered = z; state = w.state; readings = w.readings });
+        station = shows-put st s x m z e l (Some b.lone) a.motor (record { id = i; registered = z; state = w.state; readings = w.readings });
       }
 
   -- removed, the place is free; refused, all is as it was
-  removed-means : (h : Lone) → held s m ≡ some h → (k : Checked)
+  removed-means : (h : Lone) → held s m ≡ Some h → (k : Result ⊤ Refusal)
       → LeavesAs (removed_at k st (taken_place st.motors m)) (answered k, put s m (leaves h k))
   unfolding place leaves
-  removed-means h q checked.Passed = record { answer = refl; station = shows-put st s x m z e l none free_motor refl }
-  removed-means h q (checked.Refused r) = record { answer = refl; station = rw (put-held s m h q) x }
+  removed-means h q (Ok tt) = record { answer = refl; station = shows-put st s x m z e l None free_motor refl }
+  removed-means h q (Err r) = record { answer = refl; station = rw (put-held s m h q) x }
 
 heard-id : (m : Motor) (f : CanFrame) (now : ℕ) → (process_feedback_frame m f now).motor.state.motor_id ≡ m.state.motor_id
 unfolding process_feedback_frame
@@ -171,7 +170,7 @@ module _ (st : Station) (s : List Place) (x : Shows st s) where
 
   -- ---- a registration
 
-  pub register-means : (m host : ℕ) (model : ModelNamed) (wait time : ℕ)
+  pub register-means : (m host : ℕ) (model : Option Model) (wait time : ℕ)
       → LeavesAs (register_in st m host model wait time) (station_call s (register m host model wait time))
   unfolding register_in station_by admission
   register-means m host model wait time = by_tests st s x m host model wait time (first_of (register_numbers m host model wait time)) refl

@@ -1,10 +1,10 @@
 -- Lists of numbers: what holds of each number of a list holds of one that is among them, and of the first test's that applies. Assumes nothing.
+use Rattle.std.specs.Prelude.{Err}
 use Prim.Native.Nat.{ℕ}
 use mathlib.Core.Path.{◌≡◌, refl, sym, ap, ◌∙◌}
 use mathlib.Core.Bool.{Bool, true, false, true≢false, cond, not, ◌&&◌, not-not}
 use mathlib.Core.List.{List, [], ◌∷◌}
 use lib.Dec.{eqb}
-use Rattle.codec.specs.declared.error.Checked.TheVariants as checked
 use Rattle.codec.specs.declared.error.Refusal.{Refusal}
 use Rattle.codec.specs.Kinds.{among}
 use Rattle.codec.specs.Refusals.{number_of}
@@ -46,6 +46,6 @@ of-first p (t ∷ ts) h = go t.0 (of-first p ts both.1)
     both : (p (number_of t.1) ≡ true) × (every_test p ts ≡ true)
     both = and-true (p (number_of t.1)) (every_test p ts) h
 
-    go : (b : Bool) → p (checked_number (first_of ts)) ≡ true → p (checked_number (cond b (checked.Refused t.1) (first_of ts))) ≡ true
+    go : (b : Bool) → p (checked_number (first_of ts)) ≡ true → p (checked_number (cond b (Err t.1) (first_of ts))) ≡ true
     go true ih = both.0
     go false ih = ih

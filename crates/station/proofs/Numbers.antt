@@ -1,16 +1,13 @@
 -- The numbers that each call may get: a start none of an operation's, a frame its own four, a look only 6. Assumes nothing.
+use Rattle.std.specs.Prelude.{Some, None, Result, Ok, Err, ⊤, Option, is_some}
 use Prim.Native.Nat.{ℕ}
 use mathlib.Core.Path.{◌≡◌, refl}
 use mathlib.Core.Bool.{Bool, true, false, cond, not}
 use mathlib.Core.List.{List, [], ◌∷◌, ◌++◌}
-use mathlib.Core.Option.{Option, none, some}
+use Rattle.codec.specs.declared.model.Model.{Model}
 use Rattle.codec.specs.declared.bus.CanFrame.{CanFrame}
-use Rattle.codec.specs.declared.error.Checked.{Checked}
-use Rattle.codec.specs.declared.error.Checked.TheVariants as checked
 use Rattle.codec.specs.declared.error.Refusal.{Refusal}
 use Rattle.codec.specs.declared.error.Refusal.TheVariants as refusal
-use Rattle.codec.specs.declared.model.ModelNamed.{ModelNamed}
-use Rattle.codec.specs.declared.model.ModelNamed.TheVariants as named
 use Rattle.codec.specs.Kinds.{among}
 use Rattle.codec.specs.Refusals.{number_of}
 use Rattle.motor.specs.declared.engine.command.Command.{Command}
@@ -30,7 +27,7 @@ use Rattle.station.specs.declared.call.Asked.{Asked}
 use Rattle.station.specs.declared.call.Call.{Call}
 use Rattle.station.specs.declared.call.Call.TheVariants as call
 use Rattle.station.specs.Calls.{start, frame, no, says, refused, Reply}
-use Rattle.station.specs.Station.{Place, held, full, is_some, moves_to, hears_to, lone_by, route, admission, enter as takesIn, admit, source_of, to_source, station_by, station_call}
+use Rattle.station.specs.Station.{Place, held, full, moves_to, hears_to, lone_by, route, admission, enter as takesIn, admit, source_of, to_source, station_by, station_call}
 use Rattle.station.specs.Demands.{checked_number, number, start_numbers, step_numbers, numbers_of, counting_numbers, ending_numbers, moving_numbers}
 use Rattle.station.proofs.NumberLists.{every, of-each, outside, of-first}
 use Rattle.station.proofs.Starts.{start-number}
@@ -55,29 +52,29 @@ step-number h now = go (step_said h.state.clock p now) refl (of-first (λ n. amo
     tests : List (Bool × Refusal)
     tests = (is_out_of_time h.state.clock now, refusal.TimeOutOfRange) ∷ (is_idle p, refusal.NothingRunning) ∷ []
 
-    go : (k : Checked) → step_said h.state.clock p now ≡ k → among (checked_number k) step_numbers ≡ true
+    go : (k : Result ⊤ Refusal) → step_said h.state.clock p now ≡ k → among (checked_number k) step_numbers ≡ true
         → among (number (moves_to (lone_step_by k h now)).0) step_numbers ≡ true
-    go checked.Passed q e =
+    go (Ok tt) q e =
         let f = wanted p (λ id. lookup id h.readings) in
         let v = advanced (sight_of h.state) now h.state.operation f p in
         closed-number v.said v.operation v.effect v.frame v.result
         (advance-ends (sight_of h.state) now h.state.operation f p (running (is_out_of_time h.state.clock now) (is_idle p) q))
-    go (checked.Refused r) q e = e
+    go (Err r) q e = e
 
 -- ---- the six calls
 
 route-number : (ns : List ℕ) (s : List Place) (m : ℕ) (o : Option Lone) (r : Reply) (visit : Lone → Reply × Option Lone) → among (number r) ns ≡ true
     → ((h : Lone) → among (number (visit h).0) ns ≡ true) → among (number (route s m o r visit).0) ns ≡ true
 unfolding route
-route-number ns s m none r visit a b = a
-route-number ns s m (some h) r visit a b = b h
+route-number ns s m None r visit a b = a
+route-number ns s m (Some h) r visit a b = b h
 
-admit-number : (k : Checked) (s : List Place) (m host : ℕ) (model : ModelNamed) (wait time : ℕ) (ns : List ℕ)
+admit-number : (k : Result ⊤ Refusal) (s : List Place) (m host : ℕ) (model : Option Model) (wait time : ℕ) (ns : List ℕ)
     → among 0 ns ≡ true → among 3 ns ≡ true → among (checked_number k) ns ≡ true → among (number (admit k s m host model wait time).0) ns ≡ true
 unfolding admit takesIn
-admit-number checked.Passed s m host (named.Known model) wait time ns a b e = a
-admit-number checked.Passed s m host named.Unknown wait time ns a b e = b
-admit-number (checked.Refused r) s m host model wait time ns a b e = e
+admit-number (Ok tt) s m host (Some model) wait time ns a b e = a
+admit-number (Ok tt) s m host None wait time ns a b e = b
+admit-number (Err r) s m host model wait time ns a b e = e
 
 numbers-by : (s : List Place) (c : Call) (f : CanFrame) → among (number (station_by s c f).0) (numbers_of c) ≡ true
 unfolding station_by numbers_of refused lone_by hears_to hears frame_said admission among

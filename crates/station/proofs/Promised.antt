@@ -1,12 +1,11 @@
 -- Demand 3 over contracts, from a new station: of any functions whose contracts give each call's reply and next station by the
 -- definitions. The six by-value functions are such (Contracts), and so are the lent ones (lent.LentRuns). Assumes nothing.
+use Rattle.std.specs.Prelude.{Some, Ok}
 use mathlib.Core.Path.{◌≡◌, refl, sym, ap, ◌∙◌, subst}
 use mathlib.Core.Bool.{cond}
 use mathlib.Core.List.{List, [], ◌∷◌}
 use Prim.Native.Nat.{ℕ, zero, suc, ◌≤◌}
 use lib.ListN.{length, take}
-use Rattle.codec.specs.declared.error.Checked.TheVariants as checked
-use Rattle.codec.specs.declared.model.ModelNamed.TheVariants as named
 use Rattle.station.specs.declared.call.Asked.{Asked}
 use Rattle.station.specs.declared.station.Station.{Station}
 use Rattle.station.specs.Calls.{Reply, ok}
@@ -112,7 +111,7 @@ module _ (Gives : Station → Asked → Out → Type 0) (is-given : (st : Statio
   -- a registration that passes the tests is taken
   takes : (st : Station) → New st → (cs : List Asked) (os : List Out) → Ran Gives st cs os → (m : ℕ) (r : Given)
       → (o : Out) → Gives (ending st os) (registers m r) o
-      → admission (after empty cs) m r.host (named.Known r.model) r.wait r.time ≡ checked.Passed → reply_in o ≡ ok
+      → admission (after empty cs) m r.host (Some r.model) r.wait r.time ≡ Ok tt → reply_in o ≡ ok
   takes st n cs os g m r o h e =
       let s = after empty cs in
       (one (ending st os) s (registers m r) o (end_is st empty cs os n.1 g) h).0 ∙ opens s m r e

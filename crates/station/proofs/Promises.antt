@@ -1,12 +1,13 @@
 -- What the station's by-value functions promise and ask, by their contracts as the check has read them, and the demands over them.
 -- Statements only: they stand beside the proofs since a crate's contracts are read from its code after its specs/ are.
+use Rattle.std.specs.Prelude.{Option}
 use Prim.Native.Nat.{ℕ}
 use mathlib.Core.Path.{◌≡◌}
 use mathlib.Core.List.{List}
+use Rattle.codec.specs.declared.model.Model.{Model}
 use base.Fml.{Lft}
 use denote.Ref.{Bor}
 use Rattle.codec.specs.declared.bus.CanFrame.{CanFrame}
-use Rattle.codec.specs.declared.model.ModelNamed.{ModelNamed}
 use Rattle.codec.specs.Models.{model_named}
 use Rattle.station.specs.declared.call.Asked.{Asked}
 use Rattle.station.specs.declared.call.Call.{Call}
@@ -29,7 +30,7 @@ use Rattle.station.proofs.station.remove.Reads as remove-reads
 abbrev pub New : Station → Type 0
 New st = new-reads.Post tt tt st tt
 
-abbrev pub Registers : Station → ℕ → ℕ → ModelNamed → ℕ → ℕ → After → Type 0
+abbrev pub Registers : Station → ℕ → ℕ → Option Model → ℕ → ℕ → After → Type 0
 Registers st m h k w t r =
     (κ : Lft) × (n : Bor (List ℕ)) × (model_named n.now ≡ k) × register-reads.Post (κ, tt) (st, (m, (h, (n, (w, (t, tt)))))) r (st, (m, (h, (n, (w, (t, tt))))))
 

@@ -1,8 +1,8 @@
 -- Where an id stands on a good station: at no place, or at one whose motor is the lone motor held for it. Assumes nothing.
+use Rattle.std.specs.Prelude.{Option, None, Some}
 use mathlib.Core.Path.{◌≡◌, refl, ◌∙◌}
 use mathlib.Core.Bool.{Bool, true, false, true≢false}
 use mathlib.Core.List.{List}
-use mathlib.Core.Option.{Option, none, some}
 use Prim.Native.Nat.{ℕ, ◌≤◌, ◌<◌}
 use lib.Dec.{eqb, ltb, ltb→lt, nltb→le}
 use lib.ListN.{length, length-set}
@@ -18,9 +18,9 @@ use Rattle.station.proofs.Places.{same_id}
 module _ (st : Station) (s : List Place) (x : Shows st s) (m : ℕ) where
   -- the place of the id: none, or one at which a motor stands that is the lone motor held for the id
   pub data Where : Type 0 where
-    absent : ltb (taken_place st.motors m) 8 ≡ false → held s m ≡ none → Where
+    absent : ltb (taken_place st.motors m) 8 ≡ false → held s m ≡ None → Where
     present : ltb (taken_place st.motors m) 8 ≡ true → (m ≡ 0 → ⊥) → taken_place st.motors m ≡ place_of st.motors m
-        → place_of st.motors m < length st.motors → (h : Lone) → held s m ≡ some h
+        → place_of st.motors m < length st.motors → (h : Lone) → held s m ≡ Some h
         → TakenAs (motor_at st (taken_place st.motors m)) m h → Where
 
   pub where-is : Where

@@ -1,8 +1,8 @@
 -- Demand 3 over the definitions: to the motor m a station is the lone motor, whatever the other calls are. Assumes nothing.
+use Rattle.std.specs.Prelude.{Option, None, Some}
 use mathlib.Core.Path.{◌≡◌, refl, sym, ap, ◌∙◌}
 use mathlib.Core.Bool.{Bool, true, false, cond}
 use mathlib.Core.List.{List, [], ◌∷◌, map}
-use mathlib.Core.Option.{Option, none, some}
 use Prim.Native.Nat.{ℕ, zero, suc, ◌≤◌}
 use native.Mathlib.Nat.{le_of_suc-le-suc, not-suc-le-zero}
 use lib.ListN.{length, take}
@@ -29,7 +29,7 @@ eight : (cs : List Asked) → (length (after empty cs) ≡ 8) × Distinct (after
 unfolding empty
 eight cs = (after-length empty cs, after-distinct empty cs (distinct-free 8))
 
-alone-none : (cs : List Asked) → alone none cs ≡ []
+alone-none : (cs : List Asked) → alone None cs ≡ []
 unfolding alone
 alone-none [] = refl
 alone-none (c ∷ cs) = refl
@@ -38,18 +38,18 @@ alone-none (c ∷ cs) = refl
 alone-again : (o : Option Lone) (cs : List Asked) → alone o (map (λ (x : Told). x.0) (alone o cs)) ≡ alone o cs
 unfolding alone
 alone-again o [] = refl
-alone-again none (c ∷ cs) = refl
-alone-again (some h) (c ∷ cs) = ap {B = List Told} (λ k. (c, (lone h c).0) ∷ k) (alone-again (lone h c).1 cs)
+alone-again None (c ∷ cs) = refl
+alone-again (Some h) (c ∷ cs) = ap {B = List Told} (λ k. (c, (lone h c).0) ∷ k) (alone-again (lone h c).1 cs)
 
 -- m's answers are the lone motor's
-answers : (m : ℕ) (cs : List Asked) (s : List Place) (h : Lone) → Distinct s → held s m ≡ some h
-    → own m (story m s cs) ≡ alone (some h) (of_m m cs)
+answers : (m : ℕ) (cs : List Asked) (s : List Place) (h : Lone) → Distinct s → held s m ≡ Some h
+    → own m (story m s cs) ≡ alone (Some h) (of_m m cs)
 unfolding story own of_m alone
 answers m [] s h d e = refl
 answers m (c ∷ cs) s h d e = go (mine m c) refl (answers m cs)
   where
     IH : Type 0
-    IH = (s : List Place) (h : Lone) → Distinct s → held s m ≡ some h → own m (story m s cs) ≡ alone (some h) (of_m m cs)
+    IH = (s : List Place) (h : Lone) → Distinct s → held s m ≡ Some h → own m (story m s cs) ≡ alone (Some h) (of_m m cs)
 
     s' : List Place
     s' = (station_call s c).1
@@ -58,18 +58,18 @@ answers m (c ∷ cs) s h d e = go (mine m c) refl (answers m cs)
     d' = call-distinct s c d
 
     end : (o : Option Lone) → held s' m ≡ o → IH → own m (cond (is_none o) [] (story m s' cs)) ≡ alone o (of_m m cs)
-    end none q ih = sym (alone-none (of_m m cs))
-    end (some k) q ih = ih s' k d' q
+    end None q ih = sym (alone-none (of_m m cs))
+    end (Some k) q ih = ih s' k d' q
 
-    go : (b : Bool) → mine m c ≡ b → IH → own m (story m s (c ∷ cs)) ≡ alone (some h) (of_m m (c ∷ cs))
+    go : (b : Bool) → mine m c ≡ b → IH → own m (story m s (c ∷ cs)) ≡ alone (Some h) (of_m m (c ∷ cs))
     go true p ih =
         let l = own-call s m h c d e p in
         rw (p, l.0, ends m h c p) (ap {B = List Told} (λ k. (c, (lone h c).0) ∷ k) (end (lone h c).1 l.1 ih))
     go false p ih = rw (p, stays m c _ p) (ih s' h d' (other s m c p ∙ e))
 
 -- and so is what is held for it, after any k calls to its removal or the end
-held_at : (m : ℕ) (cs : List Asked) (k : ℕ) (s : List Place) (h : Lone) → Distinct s → held s m ≡ some h
-    → k ≤ length (story m s cs) → held (after s (take k cs)) m ≡ holds (some h) (of_m m (take k cs))
+held_at : (m : ℕ) (cs : List Asked) (k : ℕ) (s : List Place) (h : Lone) → Distinct s → held s m ≡ Some h
+    → k ≤ length (story m s cs) → held (after s (take k cs)) m ≡ holds (Some h) (of_m m (take k cs))
 unfolding story of_m holds after
 held_at m cs zero s h d e l = e
 held_at m [] (suc k) s h d e l = e
@@ -82,22 +82,22 @@ held_at m (c ∷ cs) (suc k) s h d e l = go (mine m c) refl (held_at m cs k)
     d' = call-distinct s c d
 
     IH : Type 0
-    IH = (s : List Place) (h : Lone) → Distinct s → held s m ≡ some h
-        → k ≤ length (story m s cs) → held (after s (take k cs)) m ≡ holds (some h) (of_m m (take k cs))
+    IH = (s : List Place) (h : Lone) → Distinct s → held s m ≡ Some h
+        → k ≤ length (story m s cs) → held (after s (take k cs)) m ≡ holds (Some h) (of_m m (take k cs))
 
     short : k ≤ length (cond {A = List Told} (removes m c.call (station_call s c).0) [] (story m s' cs))
     short = le_of_suc-le-suc l
 
-    gone : (k : ℕ) → k ≤ 0 → held s' m ≡ none → held (after s' (take k cs)) m ≡ holds none (of_m m (take k cs))
+    gone : (k : ℕ) → k ≤ 0 → held s' m ≡ None → held (after s' (take k cs)) m ≡ holds None (of_m m (take k cs))
     gone zero l q = q
     gone (suc k) l q = absurd (not-suc-le-zero l)
 
     end : (o : Option Lone) → held s' m ≡ o → k ≤ length (cond {A = List Told} (is_none o) [] (story m s' cs)) → IH
         → held (after s' (take k cs)) m ≡ holds o (of_m m (take k cs))
-    end none q l ih = gone k l q
-    end (some j) q l ih = ih s' j d' q l
+    end None q l ih = gone k l q
+    end (Some j) q l ih = ih s' j d' q l
 
-    go : (b : Bool) → mine m c ≡ b → IH → held (after s (take (suc k) (c ∷ cs))) m ≡ holds (some h) (of_m m (take (suc k) (c ∷ cs)))
+    go : (b : Bool) → mine m c ≡ b → IH → held (after s (take (suc k) (c ∷ cs))) m ≡ holds (Some h) (of_m m (take (suc k) (c ∷ cs)))
     go true p ih =
         let l = own-call s m h c d e p in
         rw p (end (lone h c).1 l.1 (rw (l.0, ends m h c p) at short) ih)
@@ -146,7 +146,7 @@ module _ {m : ℕ} {r : Given} (x : Run m r) where
   unfolding at after empty
   differ = call-distinct _ (registers m r) (after-distinct empty x.before (distinct-free 8))
 
-  begins : held (at x 0) m ≡ some (made m r)
+  begins : held (at x 0) m ≡ Some (made m r)
   unfolding at after
   begins = admitted (after empty x.before) m r x.unrefused
 
@@ -159,9 +159,9 @@ module _ {m : ℕ} {r : Given} (x : Run m r) where
       }
 
   -- as the lone motor's on m's history, which ends with the removal
-  pub by-history : own m (since x) ≡ alone (some (made m r)) (history m (since x))
+  pub by-history : own m (since x) ≡ alone (Some (made m r)) (history m (since x))
   unfolding history
-  by-history = rw as-lone.answers (sym (alone-again (some (made m r)) (of_m m x.later)))
+  by-history = rw as-lone.answers (sym (alone-again (Some (made m r)) (of_m m x.later)))
 
   -- m's calls among the first k are the first of its history
   begun : (k : ℕ) → k ≤ length (since x) → of_m m (take k x.later) ≡ take (length (of_m m (take k x.later))) (history m (since x))
@@ -172,10 +172,10 @@ module _ {m : ℕ} {r : Given} (x y : Run m r) (same-calls : history m (since x)
   pub same : Same x y
   same =
       record {
-        answers = by-history x ∙ ap (alone (some (made m r))) same-calls ∙ sym (by-history y);
+        answers = by-history x ∙ ap (alone (Some (made m r))) same-calls ∙ sym (by-history y);
         held_at = λ j k p q n.
             (as-lone x).held_at j p
-            ∙ ap (holds (some (made m r))) (begun x j p ∙ rw (n, same-calls) (sym (begun y k q)))
+            ∙ ap (holds (Some (made m r))) (begun x j p ∙ rw (n, same-calls) (sym (begun y k q)))
             ∙ sym ((as-lone y).held_at k q);
       }
 

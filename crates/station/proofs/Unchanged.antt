@@ -1,5 +1,6 @@
 -- Refused by a number other than 14 to 18 and 20, a call returns the station that it was given, the same value: by the functions'
 -- first clauses, on any station. Assumes nothing.
+use Rattle.std.specs.Prelude.{Option, Result, Ok, Err, ⊤}
 use Prim.Native.Nat.{ℕ}
 use mathlib.Core.Path.{◌≡◌, refl, sym, ap, ◌∙◌}
 use mathlib.Core.Bool.{Bool, true, false, true≢false, or-true, ◌||◌}
@@ -8,12 +9,9 @@ use lib.Dec.{eqb, ltb}
 use lib.Seq.{set-get_or}
 use lib.ListN.{set}
 use Rattle.codec.specs.declared.bus.CanFrame.{CanFrame}
-use Rattle.codec.specs.declared.error.Checked.{Checked}
-use Rattle.codec.specs.declared.error.Checked.TheVariants as checked
 use Rattle.codec.specs.declared.error.Refusal.{Refusal}
 use Rattle.codec.specs.declared.error.Refusal.TheVariants as refusal
 use Rattle.codec.specs.declared.model.Model.{Model}
-use Rattle.codec.specs.declared.model.ModelNamed.{ModelNamed}
 use Rattle.codec.specs.Kinds.{among}
 use Rattle.codec.specs.Refusals.{number_of}
 use Rattle.motor.specs.declared.engine.command.Command.{Command}
@@ -26,8 +24,6 @@ use Rattle.motor.specs.declared.motor.Answered.{Answered}
 use Rattle.motor.specs.declared.motor.Motor.{Motor}
 use Rattle.motor.specs.declared.readings.Readings.{Readings}
 use Rattle.motor.specs.declared.receive.Heard.{Heard}
-use Rattle.motor.specs.declared.registration.Admission.{Admission}
-use Rattle.motor.specs.declared.registration.Admission.TheVariants as admission
 use Rattle.motor.specs.Calls.{sight_of, wanted, is_idle, start_admitted, argued_of, start_said, step_said, registration_of}
 use Rattle.motor.specs.Motors.{new_motor, start_by, start_of, step_by, step_of, removal_of}
 use Rattle.motor.specs.Readings.{find_of, put_of}
@@ -60,26 +56,26 @@ ends-moves (said.Refused r) op e h = rw (h.0, or-true, or-true)
 start-kept : (y : Motor) (c : Command) (now : ℕ) → moves (start_of y c now).said ≡ false → (start_of y c now).motor ≡ y
 start-kept y c now = go (start_said y.state.clock y.state.operation.phase c now) refl
   where
-    go : (k : Checked) → start_said y.state.clock y.state.operation.phase c now ≡ k → moves (start_by k y c now).said ≡ false
+    go : (k : Result ⊤ Refusal) → start_said y.state.clock y.state.operation.phase c now ≡ k → moves (start_by k y c now).said ≡ false
         → (start_by k y c now).motor ≡ y
-    go checked.Passed e q =
+    go (Ok tt) e q =
         let v = begun_by (sight_of y.state) now c in
         let h = begin-ends (sight_of y.state) now c (argued-passed (start_admitted y.state.clock y.state.operation.phase c now) (argued_of c) e) in
         absurd (true≢false (sym (ends-moves v.said v.operation v.effect h) ∙ q))
-    go (checked.Refused r) e q = refl
+    go (Err r) e q = refl
 
 step_kept : (y : Motor) (now : ℕ) → moves (step_of y now).said ≡ false → (step_of y now).motor ≡ y
 step_kept y now = go (step_said y.state.clock y.state.operation.phase now) refl
   where
-    go : (k : Checked) → step_said y.state.clock y.state.operation.phase now ≡ k → moves (step_by k y now).said ≡ false
+    go : (k : Result ⊤ Refusal) → step_said y.state.clock y.state.operation.phase now ≡ k → moves (step_by k y now).said ≡ false
         → (step_by k y now).motor ≡ y
-    go checked.Passed e q =
+    go (Ok tt) e q =
         let op = y.state.operation in
         let f = wanted op.phase (λ id. find_of y.readings id) in
         let v = advanced (sight_of y.state) now op f op.phase in
         let h = advance-ends (sight_of y.state) now op f op.phase (running (is_out_of_time y.state.clock now) (is_idle op.phase) e) in
         absurd (true≢false (sym (ends-moves v.said v.operation v.effect h) ∙ q))
-    go (checked.Refused r) e q = refl
+    go (Err r) e q = refl
 
 -- 14 and 15 are two of those numbers
 fewer : (n : ℕ) → among n moving_numbers ≡ false → among n counting_numbers ≡ false
@@ -97,10 +93,10 @@ heard-kept y f now =
     let put = put_of y.readings (read_id f) (read_stored f) in
     go (frame_said y.state f now (is_full put.said)) put.readings
   where
-    go : (k : Checked) (new : Readings) → heard_moves k ≡ false
+    go : (k : Result ⊤ Refusal) (new : Readings) → heard_moves k ≡ false
         → ◌≡◌ {A = Motor} (record { state = state_after k y.state f now; readings = readings_after k f new y.readings }) y
-    go checked.Passed new q = absurd (true≢false q)
-    go (checked.Refused r) new q = rw (fewer (number_of r) q)
+    go (Ok tt) new q = absurd (true≢false q)
+    go (Err r) new q = rw (fewer (number_of r) q)
 
 -- ---- put back, it leaves the station the same value
 
@@ -114,10 +110,10 @@ put_back st i y e =
 abbrev Still : Station → After → Type 0
 Still st r = inert (gives r.replied) ≡ true → r.station ≡ st
 
-refused-still : (st : Station) (r : Refusal) → Still st (tell st (checked.Refused r))
+refused-still : (st : Station) (r : Refusal) → Still st (tell st (Err r))
 refused-still st r e = refl
 
-passed-still : (st after : Station) → Still st (tell after checked.Passed)
+passed-still : (st after : Station) → Still st (tell after (Ok tt))
 unfolding inert among
 passed-still st after e = absurd (true≢false (sym e))
 
@@ -144,43 +140,43 @@ step-still st id now =
 frame-still : (st : Station) (f : CanFrame) (now : ℕ) → Still st (frame_in st f now)
 unfolding frame_in
 frame-still st f now =
-    let other = tell st (checked.Refused refusal.FrameNotAccepted) in
+    let other = tell st (Err refusal.FrameNotAccepted) in
     either (Still st) (accepts_frame (source_of f) f) (at_place st (source_of f) (λ i. heard_at st i (process_feedback_frame (motor_at st i) f now)) other) other
     (at-place (Still st) st (source_of f) (λ i. heard_at st i (process_feedback_frame (motor_at st i) f now)) other
     (λ i p. heard-still st i (process_feedback_frame (motor_at st i) f now) (heard-kept (motor_at st i) f now))
     (refused-still st refusal.FrameNotAccepted))
     (refused-still st refusal.FrameNotAccepted)
 
-removed-still : (k : Checked) (st : Station) (i : ℕ) → Still st (removed_at k st i)
-removed-still checked.Passed st i = passed-still st (with_motor st i free_motor)
-removed-still (checked.Refused r) st i = refused-still st r
+removed-still : (k : Result ⊤ Refusal) (st : Station) (i : ℕ) → Still st (removed_at k st i)
+removed-still (Ok tt) st i = passed-still st (with_motor st i free_motor)
+removed-still (Err r) st i = refused-still st r
 
 remove-still : (st : Station) (id now : ℕ) → Still st (remove_in st id now)
 unfolding remove_in
 remove-still st id now =
-    at-place (Still st) st id (λ i. removed_at (removal_of (motor_at st i) now) st i) (tell st (checked.Refused refusal.IdNotRegistered))
+    at-place (Still st) st id (λ i. removed_at (removal_of (motor_at st i) now) st i) (tell st (Err refusal.IdNotRegistered))
     (λ i p. removed-still (removal_of (motor_at st i) now) st i)
     (refused-still st refusal.IdNotRegistered)
 
 entered-still : (st : Station) (m : Motor) → Still st (entered_in st m)
 unfolding entered_in
 entered-still st m =
-    either (Still st) (ltb (place_of st.motors 0) 8) (tell (with_motor st (place_of st.motors 0) m) checked.Passed) (tell st (checked.Refused refusal.StationFull))
+    either (Still st) (ltb (place_of st.motors 0) 8) (tell (with_motor st (place_of st.motors 0) m) (Ok tt)) (tell st (Err refusal.StationFull))
     (passed-still st (with_motor st (place_of st.motors 0) m))
     (refused-still st refusal.StationFull)
 
 admitted-still : (st : Station) (id host : ℕ) (model : Model) (wait time : ℕ) → Still st (admitted_in st id host model wait time)
 unfolding admitted_in
 admitted-still st id host model wait time =
-    at-place (Still st) st id (λ i. tell st (checked.Refused refusal.IdRegistered)) (entered_in st (new_motor id host model wait time))
+    at-place (Still st) st id (λ i. tell st (Err refusal.IdRegistered)) (entered_in st (new_motor id host model wait time))
     (λ i p. refused-still st refusal.IdRegistered)
     (entered-still st (new_motor id host model wait time))
 
-registered-still : (k : Admission) (st : Station) (id host wait time : ℕ) → Still st (register_by k st id host wait time)
-registered-still (admission.Admitted model) st id host wait time = admitted-still st id host model wait time
-registered-still (admission.Refused r) st id host wait time = refused-still st r
+registered-still : (k : Result Model Refusal) (st : Station) (id host wait time : ℕ) → Still st (register_by k st id host wait time)
+registered-still (Ok model) st id host wait time = admitted-still st id host model wait time
+registered-still (Err r) st id host wait time = refused-still st r
 
-register-still : (st : Station) (id host : ℕ) (model : ModelNamed) (wait time : ℕ) → Still st (register_in st id host model wait time)
+register-still : (st : Station) (id host : ℕ) (model : Option Model) (wait time : ℕ) → Still st (register_in st id host model wait time)
 unfolding register_in
 register-still st id host model wait time = registered-still (registration_of id host model wait time) st id host wait time
 

@@ -1,11 +1,8 @@
 -- The six calls of a station, and what is answered. Definitions only.
-use Rattle.std.specs.Prelude.{ℕ, List}
-use Rattle.std.proofs.Math.Option.{Option, none, some}
+use Rattle.std.specs.Prelude.{ℕ, List, Result, Ok, Err, ⊤, Option, None, Some}
+use Rattle.codec.specs.declared.model.Model.{Model}
 use Rattle.codec.specs.declared.bus.CanFrame.{CanFrame}
-use Rattle.codec.specs.declared.error.Checked.{Checked}
-use Rattle.codec.specs.declared.error.Checked.TheVariants as checked
 use Rattle.codec.specs.declared.error.Refusal.{Refusal}
-use Rattle.codec.specs.declared.model.ModelNamed.{ModelNamed}
 use Rattle.codec.specs.Replies.{zeros}
 use Rattle.motor.specs.declared.engine.command.Command.{Command}
 use Rattle.motor.specs.declared.engine.command.Said.{Said}
@@ -27,7 +24,7 @@ asks c = record { call = c; frame = no_frame }
 
 -- Registration takes id, host id, model, write wait and time; start an id, a command and a time; step an id and a time; a frame
 -- comes at a time; look takes an id; removal an id and a time.
-abbrev pub register : ℕ → ℕ → ModelNamed → ℕ → ℕ → Asked
+abbrev pub register : ℕ → ℕ → Option Model → ℕ → ℕ → Asked
 register m host model wait time = asks (call.Register m host model wait time)
 
 abbrev pub start : ℕ → Command → ℕ → Asked
@@ -60,7 +57,7 @@ time_of (call.Remove m now) = now
 abbrev pub reply : Answer → Replied
 reply a = record { answer = a; frame = no_frame; result = zeros }
 
-abbrev pub told : Checked → Replied
+abbrev pub told : Result ⊤ Refusal → Replied
 told k = reply (answer.Told k)
 
 abbrev pub moved : Said → CanFrame → List ℕ → Replied
@@ -68,12 +65,12 @@ moved s f b = record { answer = answer.Moved s; frame = f; result = b }
 
 -- a call refused before any motor takes it
 unfoldable pub refused : Call → Refusal → Replied
-refused (call.Register m host model wait time) r = told (checked.Refused r)
+refused (call.Register m host model wait time) r = told (Err r)
 refused (call.Start m c now) r = reply (answer.Moved (said.Refused r))
 refused (call.Step m now) r = reply (answer.Moved (said.Refused r))
-refused (call.Frame now) r = told (checked.Refused r)
-refused (call.Look m) r = reply (answer.Looked (checked.Refused r))
-refused (call.Remove m now) r = told (checked.Refused r)
+refused (call.Frame now) r = told (Err r)
+refused (call.Look m) r = reply (answer.Looked (Err r))
+refused (call.Remove m now) r = told (Err r)
 
 -- What a call gives: its reply, and of a look that isn't refused all that is held.
 pub record Reply : Type 0 where
@@ -81,19 +78,19 @@ pub record Reply : Type 0 where
   pub seen : Option Seen
 
 abbrev pub gives : Replied → Reply
-gives r = record { replied = r; seen = none }
+gives r = record { replied = r; seen = None }
 
 abbrev pub shows : Seen → Reply
-shows v = record { replied = reply (answer.Looked checked.Passed); seen = some v }
+shows v = record { replied = reply (answer.Looked (Ok tt)); seen = Some v }
 
-abbrev pub answered : Checked → Reply
+abbrev pub answered : Result ⊤ Refusal → Reply
 answered k = gives (told k)
 
 abbrev pub ok : Reply
-ok = answered checked.Passed
+ok = answered (Ok tt)
 
 abbrev pub no : Refusal → Reply
-no r = answered (checked.Refused r)
+no r = answered (Err r)
 
 abbrev pub says : Said → CanFrame → List ℕ → Reply
 says s f b = gives (moved s f b)

@@ -1,8 +1,6 @@
 -- What the calls of the code return, and lists of such returns: the words in which the demands are said of the code. Definitions only.
-use Rattle.std.specs.Prelude.{ℕ, zero, suc, ◌≡◌, cond, List, [], ◌∷◌, take}
-use Rattle.std.proofs.Math.Option.{Option, none, some}
+use Rattle.std.specs.Prelude.{ℕ, zero, suc, ◌≡◌, cond, List, [], ◌∷◌, take, Ok, Err, Result, Option, None, Some}
 use Rattle.codec.specs.declared.bus.CanFrame.{CanFrame}
-use Rattle.codec.specs.declared.error.Checked.TheVariants as checked
 use Rattle.motor.specs.declared.engine.operation.Effect.TheVariants as effect
 use Rattle.motor.specs.declared.readings.Entry.{Entry}
 use Rattle.motor.specs.engine.Run.{no_operation}
@@ -15,7 +13,8 @@ use Rattle.station.specs.declared.call.Asked.{Asked}
 use Rattle.station.specs.declared.call.Call.{Call}
 use Rattle.station.specs.declared.call.Call.TheVariants as call
 use Rattle.station.specs.declared.station.After.{After}
-use Rattle.station.specs.declared.station.Looked.{Looked}
+use Rattle.codec.specs.declared.error.Refusal.{Refusal}
+use Rattle.motor.specs.declared.motor.Seen.{Seen}
 use Rattle.station.specs.declared.station.Station.{Station}
 use Rattle.station.specs.Calls.{Reply, reply, gives, shows}
 use Rattle.station.specs.Station.{Place, source_of}
@@ -27,7 +26,7 @@ use Rattle.station.specs.History.{Told, removes}
 -- A look returns no station, and changes none.
 pub data Out : Type 0 where
   after : After → Out
-  looked : Looked → Out
+  looked : Result Seen Refusal → Out
 
 unfoldable pub reply_in : Out → Reply
 reply_in (after r) = gives r.replied
@@ -60,12 +59,13 @@ unfoldable pub seen : Station → ℕ → Reply
 seen st m = reply_of (look_in st m)
 
 unfoldable pub shown : Option Lone → Reply
-shown none = gives (reply (answer.Looked (checked.Refused (plain 6))))
-shown (some h) = shows (lone_look h)
+shown None = gives (reply (answer.Looked (Err (plain 6))))
+shown (Some h) = shows (lone_look h)
 
 -- the readings that a look shows
-abbrev pub readings_in : Looked → List Entry
-readings_in l = take l.seen.readings.count l.seen.readings.entries
+abbrev pub readings_in : Result Seen Refusal → List Entry
+readings_in (Ok v) = take v.readings.count v.readings.entries
+readings_in (Err r) = []
 
 -- ---- where a call goes, and what it changes there
 

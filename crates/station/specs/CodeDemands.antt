@@ -1,24 +1,21 @@
 -- Demands 1, 2 and 3 over contracts: of any functions whose contracts say what is returned, `Gives` of a call on a station and `New` of
 -- a new station. Promises and lent.LentPromises, beside the proofs, say which they are. Definitions only.
-use Rattle.std.specs.Prelude.{ℕ, ◌≤◌, ◌≡◌, true, false, List, [], ◌∷◌, length, take}
-use Rattle.std.proofs.Math.Option.{none, some}
+use Rattle.std.specs.Prelude.{ℕ, ◌≤◌, ◌≡◌, true, false, List, [], ◌∷◌, length, take, Some, Ok, Result, None}
+use Rattle.codec.specs.Numbers.{said_in}
 use Rattle.codec.specs.declared.bus.CanFrame.{CanFrame}
-use Rattle.codec.specs.declared.error.Checked.TheVariants as checked
-use Rattle.codec.specs.declared.model.ModelNamed.TheVariants as named
-use Rattle.codec.specs.declared.protocol.EncodedValue.TheVariants as encoded
 use Rattle.codec.specs.declared.protocol.ParameterValue.{ParameterValue}
 use Rattle.codec.specs.Kinds.{among}
 use Rattle.codec.specs.Values.{encode_parameter_value, encode_parameter_write, InRange}
 use Rattle.motor.specs.declared.engine.command.Command.{Command}
 use Rattle.motor.specs.declared.engine.command.Command.TheVariants as command
-use Rattle.motor.specs.declared.engine.reading.Found.TheVariants as found
 use Rattle.motor.specs.declared.readings.Entry.{Entry}
 use Rattle.motor.specs.Echo.{Carries}
 use Rattle.motor.specs.Lone.{Lone, lone_look}
 use Rattle.motor.specs.Readings.{lookup}
 use Rattle.motor.specs.Receive.{is_read}
 use Rattle.station.specs.declared.call.Asked.{Asked}
-use Rattle.station.specs.declared.station.Looked.{Looked}
+use Rattle.codec.specs.declared.error.Refusal.{Refusal}
+use Rattle.motor.specs.declared.motor.Seen.{Seen}
 use Rattle.station.specs.declared.station.Station.{Station}
 use Rattle.station.specs.Calls.{start, step, frame, look, remove, ok, shows}
 use Rattle.station.specs.Station.{Place, empty, held, Distinct, admission, source_of, station_call}
@@ -63,9 +60,9 @@ module _ (Gives : Station → Asked → Out → Type 0) where
     -- What Demand 3 says, of the code.
     module _ {m : ℕ} {r : Given} where
       pub record CodeAsLone (x : CodeRun m r) : Type 0 where
-        pub answers : own m (code-since x) ≡ alone (some (made m r)) (of_m m x.later)
+        pub answers : own m (code-since x) ≡ alone (Some (made m r)) (of_m m x.later)
         pub held_at : (k : ℕ) → k ≤ length (code-since x)
-            → seen (code_at x k) m ≡ shown (holds (some (made m r)) (of_m m (take k x.later)))
+            → seen (code_at x k) m ≡ shown (holds (Some (made m r)) (of_m m (take k x.later)))
 
       pub record CodeSame (x y : CodeRun m r) : Type 0 where
         pub answers : own m (code-since x) ≡ own m (code-since y)
@@ -79,17 +76,17 @@ module _ (Gives : Station → Asked → Out → Type 0) where
       pub places : (st : Station) → New st → (cs : List Asked) (os : List Out) → Ran st cs os → (s : List Place) × Shows (ending st os) s × Distinct s
       pub taken_in : (st : Station) → New st → (cs : List Asked) (os : List Out) → Ran st cs os → (m : ℕ) (r : Given)
           → (o : Out) → Gives (ending st os) (registers m r) o
-          → admission (after empty cs) m r.host (named.Known r.model) r.wait r.time ≡ checked.Passed → reply_in o ≡ ok
+          → admission (after empty cs) m r.host (Some r.model) r.wait r.time ≡ Ok tt → reply_in o ≡ ok
 
   -- ---- demand 1
 
   -- Demand 1 of a good station, st, which holds s: the replies, and what a look shows after a call.
   pub record CodeKept (st : Station) (s : List Place) : Type 0 where
     pub others : (a : Asked) (o : Out) → Gives st a o → (m : ℕ) → mine m a ≡ false → seen (next st o) m ≡ seen st m
-    pub freed : (m now : ℕ) (o : Out) → Gives st (remove m now) o → reply_in o ≡ ok → seen (next st o) m ≡ shown none
-    pub counted : (f : CanFrame) (now : ℕ) (o : Out) (h : Lone) → Gives st (frame f now) o → held s (source_of f) ≡ some h
+    pub freed : (m now : ℕ) (o : Out) → Gives st (remove m now) o → reply_in o ≡ ok → seen (next st o) m ≡ shown None
+    pub counted : (f : CanFrame) (now : ℕ) (o : Out) (h : Lone) → Gives st (frame f now) o → held s (source_of f) ≡ Some h
         → among (number (reply_in o)) counting_numbers ≡ true → seen (next st o) (source_of f) ≡ shows (lone_look (raised h now))
-    pub ended : (m now : ℕ) (o : Out) (h : Lone) → Gives st (step m now) o → held s m ≡ some h
+    pub ended : (m now : ℕ) (o : Out) (h : Lone) → Gives st (step m now) o → held s m ≡ Some h
         → among (number (reply_in o)) ending_numbers ≡ true → seen (next st o) m ≡ shows (lone_look (failed h now))
     pub numbers : (a : Asked) (o : Out) → Gives st a o → among (number (reply_in o)) (numbers_of a.call) ≡ true
     pub start-numbers : (m : ℕ) (c : Command) (now : ℕ) (o : Out) → Gives st (start m c now) o
@@ -116,11 +113,11 @@ module _ (Gives : Station → Asked → Out → Type 0) where
   -- Where the contracts allow these results, on a station that holds t, a look shows the value that was echoed, whoever wrote it.
   abbrev pub CodeEcho : Type 0
   CodeEcho =
-      (id raw : ℕ) (v : ParameterValue) → InRange v → encode_parameter_value id v ≡ encoded.Raw raw
+      (id raw : ℕ) (v : ParameterValue) → InRange v → encode_parameter_value id v ≡ Ok raw
       → (st : Station) (t : List Place) → Shows st t → (f : CanFrame) (later : ℕ) → is_read f ≡ true → Carries f.data (encode_parameter_write id raw)
       → (r : Out) → Gives st (frame f later) r → reply_in r ≡ ok
-      → (l : Looked) → Gives (next st r) (look (source_of f)) (looked l)
-      → (l.said ≡ checked.Passed) × (lookup id (readings_in l) ≡ found.Held (record { value = v }))
+      → (l : Result Seen Refusal) → Gives (next st r) (look (source_of f)) (looked l)
+      → (said_in l ≡ Ok tt) × (lookup id (readings_in l) ≡ Some (record { value = v }))
 
   -- So of a call write_parameter on a station that holds s.
   abbrev pub CodeEchoOfCall : Type 0
@@ -129,15 +126,15 @@ module _ (Gives : Station → Asked → Out → Type 0) where
       → (w : Out) → Gives st (start m (command.WriteParameter id v) time) w → unrefused (reply_in w) ≡ true
       → (st' : Station) (t : List Place) → Shows st' t → (f : CanFrame) (later : ℕ) → is_read f ≡ true → Carries f.data (sent_in (reply_in w)).data
       → (r : Out) → Gives st' (frame f later) r → reply_in r ≡ ok
-      → (l : Looked) → Gives (next st' r) (look (source_of f)) (looked l)
-      → (l.said ≡ checked.Passed) × (lookup id (readings_in l) ≡ found.Held (record { value = v }))
+      → (l : Result Seen Refusal) → Gives (next st' r) (look (source_of f)) (looked l)
+      → (said_in l ≡ Ok tt) × (lookup id (readings_in l) ≡ Some (record { value = v }))
 
   module _ (New : Station → Type 0) where
     -- After any run of the code from a new station, the readings that a look shows came in its calls.
     abbrev pub CodeReadings : Type 0
     CodeReadings =
         (st : Station) → New st → (cs : List Asked) (os : List Out) → Ran st cs os
-        → (m : ℕ) (l : Looked) → Gives (ending st os) (look m) (looked l) → l.said ≡ checked.Passed
+        → (m : ℕ) (l : Result Seen Refusal) → Gives (ending st os) (look m) (looked l) → said_in l ≡ Ok tt
         → (e : Entry) → In e (readings_in l) → HeldReading m (telling empty cs) e
 
     -- What the contracts allow is the definition's value on any station, and, where it holds s, as document 01's station.

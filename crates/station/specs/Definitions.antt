@@ -1,6 +1,6 @@
 -- What the functions of codec, engine and motor promise, against document 01's definitions: `Reads.Post` of a function is its contract,
 -- as the check has read it, and `Reads.requires` what it asks. Definitions only.
-use Rattle.std.specs.Prelude.{ℕ, ◌≡◌, List, []}
+use Rattle.std.specs.Prelude.{ℕ, ◌≡◌, List, [], Result, ⊤}
 use base.Logic.{ent, emp}
 use borrow.Fn.World.{World, Pr}
 use contract.Lifetimes.{Lfts}
@@ -8,8 +8,8 @@ use contract.Monad.{fact}
 use Rattle.std.specs.Borrow.{MutBor}
 use Rattle.std.specs.Int.{w8}
 use Rattle.std.proofs.Common.{of_z, to_z}
+use Rattle.codec.specs.declared.error.Refusal.{Refusal}
 use Rattle.codec.specs.declared.bus.CanFrame.{CanFrame}
-use Rattle.codec.specs.declared.error.Checked.{Checked}
 use Rattle.codec.specs.Faults.{decode_fault_report}
 use Rattle.codec.specs.Ids.{build_ext_id, ext_id_parts}
 use Rattle.codec.specs.Kinds.{parameter_info}
@@ -280,10 +280,10 @@ pub record MotorAsks : Type 2 where
 -- ---- the thin receive call
 
 -- what is said, and the motor at exit, are those of the by-value call
-abbrev pub ThinHeard : Motor → CanFrame → ℕ → Checked → Motor → Type 0
+abbrev pub ThinHeard : Motor → CanFrame → ℕ → Result ⊤ Refusal → Motor → Type 0
 ThinHeard m f time r end = (r ≡ (process_feedback_frame m f time).said) × (end ≡ (process_feedback_frame m f time).motor)
 
 pub record ThinRules : Type 2 where
-  pub heard : (w : World) (k : Lfts 1) (m end : MutBor Motor) (f : CanFrame) (time : ℕ) (r : Checked)
+  pub heard : (w : World) (k : Lfts 1) (m end : MutBor Motor) (f : CanFrame) (time : ℕ) (r : Result ⊤ Refusal)
       → (thin.clauses w.𝓛 w.𝓜.mem w.𝓡.run k (m, (f, (time, tt)))).ensures tt r (end, (f, (time, tt)))
       ≡ fact w.𝓤 (ThinHeard m.now f time r end.now)

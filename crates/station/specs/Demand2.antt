@@ -1,23 +1,18 @@
 -- Demand 2: the functions' own contracts promise document 01's definitions, and ask nothing of a caller; a value accepted for writing and echoed is held; what is held
 -- came in a reply, has the table's kind, and writes out the bytes that its kind uses. `Carries`, `Sent`, `WrittenOut` and `held_kind`
 -- are the motor's. Definitions only.
-use Rattle.std.specs.Prelude.{ℕ, ◌<◌, ◌≡◌, Bool, true, false, List, [], ◌∷◌, ◌⊎◌, get_or}
-use Rattle.std.proofs.Math.Option.{Option, none, some}
+use Rattle.std.specs.Prelude.{ℕ, ◌<◌, ◌≡◌, Bool, true, false, List, [], ◌∷◌, ◌⊎◌, get_or, Some, None, Result, Ok, Err, ⊤, Option}
+use Rattle.motor.specs.declared.engine.reading.Stored.{Stored}
+use Rattle.codec.specs.declared.error.Refusal.{Refusal}
 use Rattle.codec.specs.declared.bus.CanFrame.{CanFrame}
-use Rattle.codec.specs.declared.error.Checked.{Checked}
-use Rattle.codec.specs.declared.error.Checked.TheVariants as checked
-use Rattle.codec.specs.declared.protocol.EncodedValue.TheVariants as encoded
 use Rattle.codec.specs.declared.protocol.ParameterValue.{ParameterValue}
 use Rattle.codec.specs.declared.registers.ParameterDataType.{ParameterDataType}
-use Rattle.codec.specs.declared.registers.ParameterInfo.TheVariants as info
 use Rattle.codec.specs.Kinds.{parameter_info}
 use Rattle.codec.specs.Values.{kind_in, encode_parameter_value, encode_parameter_write, InRange}
 use Rattle.motor.specs.declared.engine.command.Command.{Command}
 use Rattle.motor.specs.declared.engine.command.Command.TheVariants as command
 use Rattle.motor.specs.declared.engine.command.Said.{Said}
 use Rattle.motor.specs.declared.engine.command.Said.TheVariants as said
-use Rattle.motor.specs.declared.engine.reading.Found.{Found}
-use Rattle.motor.specs.declared.engine.reading.Found.TheVariants as found
 use Rattle.motor.specs.declared.readings.Entry.{Entry}
 use Rattle.motor.specs.Calls.{sight_of}
 use Rattle.motor.specs.Lone.{Lone}
@@ -36,9 +31,9 @@ use Rattle.station.specs.Definitions.{Ids, Parameters, MotionValues, StatusValue
 -- ---- echo
 
 -- an answer that isn't a refusal, and the frame that comes with it
-abbrev pub passes : Checked → Bool
-passes checked.Passed = true
-passes (checked.Refused r) = false
+abbrev pub passes : Result ⊤ Refusal → Bool
+passes (Ok tt) = true
+passes (Err r) = false
 
 abbrev pub goes_on : Said → Bool
 goes_on (said.Sent due) = true
@@ -59,18 +54,18 @@ abbrev pub sent_in : Reply → CanFrame
 sent_in r = r.replied.frame
 
 -- the reading of a parameter that is held for a motor
-unfoldable pub reading : ℕ → Option Lone → Found
-reading id none = found.Nothing
-reading id (some h) = lookup id h.readings
+unfoldable pub reading : ℕ → Option Lone → Option Stored
+reading id None = None
+reading id (Some h) = lookup id h.readings
 
 -- A value that its case can hold and that the encoder takes, whoever writes it, and any frame, to any station, that is a read reply, carries
 -- the id and the four bytes as a write of it does, and isn't refused (so its status is zero, not 14): it is held with its kind and bits.
 abbrev pub Echo : Type 0
 Echo =
-    (id raw : ℕ) (v : ParameterValue) → InRange v → encode_parameter_value id v ≡ encoded.Raw raw
+    (id raw : ℕ) (v : ParameterValue) → InRange v → encode_parameter_value id v ≡ Ok raw
     → (t : List Place) (f : CanFrame) (later : ℕ) → is_read f ≡ true → Carries f.data (encode_parameter_write id raw)
     → (station_call t (frame f later)).0 ≡ ok
-    → reading id (held (station_call t (frame f later)).1 (source_of f)) ≡ found.Held (record { value = v })
+    → reading id (held (station_call t (frame f later)).1 (source_of f)) ≡ Some (record { value = v })
 
 -- So of a call write_parameter that isn't refused: the reply carries id and bytes as its frame did.
 abbrev pub EchoOfCall : Type 0
@@ -80,13 +75,13 @@ EchoOfCall =
     unrefused a ≡ true
     → (t : List Place) (f : CanFrame) (later : ℕ) → is_read f ≡ true → Carries f.data (sent_in a).data
     → (station_call t (frame f later)).0 ≡ ok
-    → reading id (held (station_call t (frame f later)).1 (source_of f)) ≡ found.Held (record { value = v })
+    → reading id (held (station_call t (frame f later)).1 (source_of f)) ≡ Some (record { value = v })
 
 -- After any list of calls from a fresh station, for any motor: the frame of a start or a step is none, a request, a motion command or that
 -- of another id, and a write among them, in whatever operation, is of a value that the encoder takes, as `Echo` asks.
 abbrev pub Writes : Type 0
 Writes =
-    (cs : List Asked) (m : ℕ) (h : Lone) → held (after empty cs) m ≡ some h
+    (cs : List Asked) (m : ℕ) (h : Lone) → held (after empty cs) m ≡ Some h
     → ((c : Command) (time : ℕ) → Sent (sight_of h.state) (sent_in (station_call (after empty cs) (start m c time)).0))
     × ((time : ℕ) → Sent (sight_of h.state) (sent_in (station_call (after empty cs) (step m time)).0))
 
@@ -116,13 +111,13 @@ pub record Came (m : ℕ) (told : List Told) (e : Entry) : Type 0 where
 pub record HeldReading (m : ℕ) (told : List Told) (e : Entry) : Type 0 where
   pub came : Came m told e
   pub kind : kind_in e.held.value ≡ held_kind e.id
-  pub written_out : (k : ParameterDataType) → parameter_info e.id ≡ info.Listed k → ((i : ℕ) → get_or came.reply.data i 0 < 256)
+  pub written_out : (k : ParameterDataType) → parameter_info e.id ≡ Some k → ((i : ℕ) → get_or came.reply.data i 0 < 256)
       → WrittenOut e.id e.held.value k came.reply.data
 
 -- after any list of calls from a fresh station, for any motor, every reading
 abbrev pub Readings : Type 0
 Readings =
-    (cs : List Asked) (m : ℕ) (h : Lone) → held (after empty cs) m ≡ some h → (e : Entry) → In e h.readings → HeldReading m (telling empty cs) e
+    (cs : List Asked) (m : ℕ) (h : Lone) → held (after empty cs) m ≡ Some h → (e : Entry) → In e h.readings → HeldReading m (telling empty cs) e
 
 -- ---- demand 2
 

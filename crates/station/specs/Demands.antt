@@ -1,11 +1,8 @@
 -- Demands 3 and 1 over the calls of a station. Definitions only.
-use Rattle.std.specs.Prelude.{ℕ, ◌≤◌, ◌≡◌, Bool, true, false, not, List, [], ◌∷◌, ◌++◌, length, take}
-use Rattle.std.proofs.Math.Option.{none, some}
+use Rattle.std.specs.Prelude.{ℕ, ◌≤◌, ◌≡◌, Bool, true, false, not, List, [], ◌∷◌, ◌++◌, length, take, Some, Result, Ok, Err, ⊤, None}
+use Rattle.codec.specs.declared.error.Refusal.{Refusal}
 use Rattle.codec.specs.declared.bus.CanFrame.{CanFrame}
-use Rattle.codec.specs.declared.error.Checked.{Checked}
-use Rattle.codec.specs.declared.error.Checked.TheVariants as checked
 use Rattle.codec.specs.declared.model.Model.{Model}
-use Rattle.codec.specs.declared.model.ModelNamed.TheVariants as named
 use Rattle.codec.specs.Kinds.{among}
 use Rattle.codec.specs.Refusals.{number_of}
 use Rattle.motor.specs.declared.engine.command.Command.{Command}
@@ -35,7 +32,7 @@ pub record Given : Type 0 where
 
 -- the registration, and the lone motor made by it
 unfoldable pub registers : ℕ → Given → Asked
-registers m r = register m r.host (named.Known r.model) r.wait r.time
+registers m r = register m r.host (Some r.model) r.wait r.time
 
 unfoldable pub made : ℕ → Given → Lone
 made m r = lone_new m r.host r.model r.wait r.time
@@ -57,8 +54,8 @@ module _ {m : ℕ} {r : Given} (x : Run m r) where
 -- A run is as the lone motor's. Its calls and frames have the lone motor's answers. And after any k calls, to the removal of m or
 -- the end, the station holds for m what the lone motor holds after those of the k that are m's.
 pub record AsLone {m : ℕ} {r : Given} (x : Run m r) : Type 0 where
-  pub answers : own m (since x) ≡ alone (some (made m r)) (of_m m x.later)
-  pub held_at : (k : ℕ) → k ≤ length (since x) → held (at x k) m ≡ holds (some (made m r)) (of_m m (take k x.later))
+  pub answers : own m (since x) ≡ alone (Some (made m r)) (of_m m x.later)
+  pub held_at : (k : ℕ) → k ≤ length (since x) → held (at x k) m ≡ holds (Some (made m r)) (of_m m (take k x.later))
 
 -- Two runs are the same for m. They have the same answers, and hold the same for m after each of its calls and frames, until its
 -- next: wherever as many of m's calls lie behind in both.
@@ -74,15 +71,15 @@ pub record Demand3 : Type 0 where
   pub lone-motor : (m : ℕ) (r : Given) (x : Run m r) → AsLone x
   pub places : (cs : List Asked) → (length (after empty cs) ≡ most_motors) × Distinct (after empty cs)
   pub taken_in : (cs : List Asked) (m : ℕ) (r : Given)
-      → admission (after empty cs) m r.host (named.Known r.model) r.wait r.time ≡ checked.Passed
+      → admission (after empty cs) m r.host (Some r.model) r.wait r.time ≡ Ok tt
       → (station_call (after empty cs) (registers m r)).0 ≡ ok
 
 -- ---- demand 1
 
 -- the number by which an answer refuses, 0 where it doesn't
-abbrev pub checked_number : Checked → ℕ
-checked_number checked.Passed = 0
-checked_number (checked.Refused r) = number_of r
+abbrev pub checked_number : Result ⊤ Refusal → ℕ
+checked_number (Ok tt) = 0
+checked_number (Err r) = number_of r
 
 abbrev pub said_number : Said → ℕ
 said_number (said.Sent due) = 0
@@ -141,13 +138,13 @@ failed h now = record { state = state_by h.state now no_command no_operation eff
 pub record Demand1 : Type 0 where
   pub refused : (s : List Place) (c : Asked) → inert (station_call s c).0 ≡ true → (station_call s c).1 ≡ s
   pub others : (s : List Place) (m : ℕ) (c : Asked) → mine m c ≡ false → held (station_call s c).1 m ≡ held s m
-  pub freed : (s : List Place) (m now : ℕ) → Distinct s → (station_call s (remove m now)).0 ≡ ok → held (station_call s (remove m now)).1 m ≡ none
-  pub counted : (s : List Place) (f : CanFrame) (now : ℕ) (h : Lone) → Distinct s → held s (source_of f) ≡ some h
+  pub freed : (s : List Place) (m now : ℕ) → Distinct s → (station_call s (remove m now)).0 ≡ ok → held (station_call s (remove m now)).1 m ≡ None
+  pub counted : (s : List Place) (f : CanFrame) (now : ℕ) (h : Lone) → Distinct s → held s (source_of f) ≡ Some h
       → among (number (station_call s (frame f now)).0) counting_numbers ≡ true
-      → held (station_call s (frame f now)).1 (source_of f) ≡ some (raised h now)
-  pub ended : (s : List Place) (m now : ℕ) (h : Lone) → Distinct s → held s m ≡ some h
+      → held (station_call s (frame f now)).1 (source_of f) ≡ Some (raised h now)
+  pub ended : (s : List Place) (m now : ℕ) (h : Lone) → Distinct s → held s m ≡ Some h
       → among (number (station_call s (step m now)).0) ending_numbers ≡ true
-      → held (station_call s (step m now)).1 m ≡ some (failed h now)
+      → held (station_call s (step m now)).1 m ≡ Some (failed h now)
   pub numbers : (s : List Place) (c : Asked) → among (number (station_call s c).0) (numbers_of c.call) ≡ true
   pub start-numbers : (s : List Place) (m : ℕ) (c : Command) (now : ℕ)
       → among (number (station_call s (start m c now)).0) (21 ∷ moving_numbers) ≡ false

@@ -1,13 +1,11 @@
 -- Marked for proof: document 01's starred examples and those of its table of numbers, as one table and one theorem, which antt computes.
 -- The codec's rows stand in its own table, and are taken over. Assumes nothing.
-use Rattle.std.specs.Prelude.{ℕ, ◌≡◌, refl, List, [], ◌∷◌, ◌++◌, map, ℤ, pos}
-use Rattle.std.proofs.Math.Option.{Option, none, some}
-use Rattle.codec.specs.declared.error.Checked.{Checked}
-use Rattle.codec.specs.declared.error.Checked.TheVariants as checked
+use Rattle.std.specs.Prelude.{ℕ, ◌≡◌, refl, List, [], ◌∷◌, ◌++◌, map, ℤ, pos, Some, None, Result, Ok, Err, ⊤, Option}
+use Rattle.motor.specs.declared.engine.reading.Stored.{Stored}
+use Rattle.motor.specs.declared.feedback.MotorFeedbackState.{MotorFeedbackState}
 use Rattle.codec.specs.declared.error.Refusal.{Refusal}
 use Rattle.codec.specs.declared.error.Refusal.TheVariants as refusal
 use Rattle.codec.specs.declared.model.Model.TheVariants.{Rs00}
-use Rattle.codec.specs.declared.model.ModelNamed.TheVariants as named
 use Rattle.codec.specs.declared.protocol.ParameterValue.{ParameterValue}
 use Rattle.codec.specs.declared.protocol.ParameterValue.TheVariants as value
 use Rattle.codec.specs.declared.registers.ControlMode.TheVariants as mode
@@ -17,6 +15,7 @@ use Rattle.codec.specs.Kinds.{among, listed_ids, int8_ids, uint8_ids, uint16_ids
 use Rattle.codec.specs.Models.{rs, same_bytes, named_among, model_named}
 use Rattle.codec.specs.Modes.{control_mode_from_raw}
 use Rattle.codec.specs.Refusals.{number_of, values_of}
+use Rattle.codec.specs.Numbers.{said_in}
 use Rattle.codec.specs.Replies.{zeros, decode_ping_reply, decode_version_reply}
 use Rattle.motor.specs.declared.engine.command.Command.{Command}
 use Rattle.motor.specs.declared.engine.command.Command.TheVariants as command
@@ -24,13 +23,9 @@ use Rattle.motor.specs.declared.engine.command.Outcome.TheVariants as outcome
 use Rattle.motor.specs.declared.engine.command.Said.{Said}
 use Rattle.motor.specs.declared.engine.command.Said.TheVariants as said
 use Rattle.motor.specs.declared.engine.candidates.Candidates.{Candidates}
-use Rattle.motor.specs.declared.engine.reading.Found.{Found}
-use Rattle.motor.specs.declared.engine.reading.Found.TheVariants as found
 use Rattle.motor.specs.engine.Hosts.{host_candidates}
 use Rattle.motor.specs.engine.Requests.{no_frame}
 use Rattle.motor.specs.engine.Script.{is_mode}
-use Rattle.motor.specs.declared.feedback.Latest.{Latest}
-use Rattle.motor.specs.declared.feedback.Latest.TheVariants as latest
 use Rattle.motor.specs.Lone.{Lone, hears}
 use Rattle.motor.specs.Readings.{run}
 use Rattle.motor.specs.Receive.{accepts_frame, is_out_of_time, counted_at, ping_after, feedback_in, next_sequence, feedback_after, fault_after, told_by, is_read, read_status, read_id, read_stored, frame_said, state_after, readings_after}
@@ -39,7 +34,7 @@ use Rattle.station.specs.declared.call.Answer.{Answer}
 use Rattle.station.specs.declared.call.Answer.TheVariants as answer
 use Rattle.station.specs.declared.call.Asked.{Asked}
 use Rattle.station.specs.Calls.{register, start, step, frame, Reply, ok, no, says, refused}
-use Rattle.station.specs.Station.{Place, empty, held, is_some, full, add, put, place, moves_to, hears_to, leaves, lone_by, route, admission, enter, admit, source_of, station_by, station_call}
+use Rattle.station.specs.Station.{Place, empty, held, full, add, put, place, moves_to, hears_to, leaves, lone_by, route, admission, enter, admit, source_of, station_by, station_call}
 use Rattle.station.specs.History.{after}
 use Rattle.station.specs.Demand2.{reading}
 
@@ -54,24 +49,24 @@ answers s (c ∷ cs) =
 
 -- a station with motor 1, rs-00, host FD, clock 100
 unfoldable pub one : List Place
-one = after empty (register 1 0xFD (named.Known Rs00) 0 100 ∷ [])
+one = after empty (register 1 0xFD (Some Rs00) 0 100 ∷ [])
 
 -- mode_state and device of the feedback that is held for a motor
-unfoldable pub flags_in : Latest → List ℕ
-flags_in latest.Nothing = []
-flags_in (latest.State f) = f.mode_state ∷ f.device_id ∷ []
+unfoldable pub flags_in : Option MotorFeedbackState → List ℕ
+flags_in None = []
+flags_in (Some f) = f.mode_state ∷ f.device_id ∷ []
 
 unfoldable pub flags : Option Lone → List ℕ
-flags none = []
-flags (some h) = flags_in h.state.feedback.latest
+flags None = []
+flags (Some h) = flags_in h.state.feedback.latest
 
 -- a refusal: its number, then the values that it carries; nothing where a call isn't refused
 abbrev pub with_values : Refusal → List ℤ
 with_values r = pos (number_of r) ∷ values_of r
 
-unfoldable pub refused_by : Checked → List ℤ
-refused_by checked.Passed = []
-refused_by (checked.Refused r) = with_values r
+unfoldable pub refused_by : Result ⊤ Refusal → List ℤ
+refused_by (Ok tt) = []
+refused_by (Err r) = with_values r
 
 unfoldable pub failed_by : Said → List ℤ
 failed_by (said.Sent due) = []
@@ -88,7 +83,7 @@ refused_in (answer.Looked k) = refused_by k
 -- ---- calls and frames of the rows
 
 abbrev pub registered : ℕ → Asked
-registered m = register m 0xFD (named.Known Rs00) 0 100
+registered m = register m 0xFD (Some Rs00) 0 100
 
 -- a call for motor 1 at time 100
 abbrev pub call : Command → Asked
@@ -106,8 +101,8 @@ abbrev pub mode-is : ℕ → ℕ → Asked
 mode-is m now = replies 1 0x05 0x70 m 0 0 0 now
 
 -- this value is held
-abbrev pub is : ParameterValue → Found
-is v = found.Held (record { value = v })
+abbrev pub is : ParameterValue → Option Stored
+is v = Some (record { value = v })
 
 -- ---- the table: what is answered to calls on a station, the refusal that answers the last of them, what is held after them for a
 -- motor, what the codec refuses, the candidates
@@ -115,9 +110,9 @@ is v = found.Held (record { value = v })
 pub data Row : Type 0 where
   session : List Place → List Asked → List Reply → Row
   refuses-last : List Place → List Asked → Asked → List ℤ → Row
-  holds : List Place → List Asked → ℕ → ℕ → Found → Row
+  holds : List Place → List Asked → ℕ → ℕ → Option Stored → Row
   status : List Place → List Asked → ℕ → List ℕ → Row
-  decoder : Checked → List ℤ → Row
+  decoder : Result ⊤ Refusal → List ℤ → Row
   hosts : ℕ → Candidates → Row
 
 -- the row with what is really so
@@ -160,7 +155,7 @@ fills = map (λ id. replies 1 id 0 0 0 0 0 100) (run 96 1)
 abbrev pub numbers : List Row
 numbers =
     refuses-last one [] (registered 0) (pos 1 ∷ [])
-    ∷ refuses-last one [] (register 2 256 (named.Known Rs00) 0 100) (pos 2 ∷ [])
+    ∷ refuses-last one [] (register 2 256 (Some Rs00) 0 100) (pos 2 ∷ [])
     ∷ refuses-last one [] (register 2 0xFD (model_named (rs (0x39 ∷ 0x39 ∷ []))) 0 100) (pos 3 ∷ [])
     ∷ refuses-last one (map registered (run 7 2)) (registered 9) (pos 4 ∷ [])
     ∷ refuses-last one [] (registered 1) (pos 5 ∷ [])
@@ -188,8 +183,8 @@ numbers =
     ∷ refuses-last one [] (call (command.SetDeviceId 0)) (pos 19 ∷ [])
     ∷ refuses-last one (call (command.GetParameterF32 0x7005 200) ∷ mode-is 2 120 ∷ []) (step 1 120) (pos 20 ∷ [])
     ∷ refuses-last one [] (step 1 100) (pos 21 ∷ [])
-    ∷ decoder (decode_ping_reply 0x010001FD zeros).said (pos 22 ∷ [])
-    ∷ decoder (decode_version_reply 0x020001FD (bytes 0x01 0 0 0 0 0 0 0)).said (pos 23 ∷ [])
+    ∷ decoder (said_in (decode_ping_reply 0x010001FD zeros)) (pos 22 ∷ [])
+    ∷ decoder (said_in (decode_version_reply 0x020001FD (bytes 0x01 0 0 0 0 0 0 0))) (pos 23 ∷ [])
     ∷ []
 
 -- ---- the incident: flaps 2 and 6 both read their angle, 7019, and the replies come in either order. Each has its own: 1.5 and −2.0
@@ -225,5 +220,5 @@ abbrev pub Examples : Type 0
 Examples = codec.RowsHold codec.examples × RowsHold marked × RowsHold numbers × RowsHold flaps
 
 pub examples-hold : Examples
-unfolding answers after one reading flags flags_in refused_in refused_by failed_by run same_bytes named_among station_by empty held is_some full add put place moves_to hears_to leaves lone_by route admission enter admit source_of refused hears frame_said state_after readings_after accepts_frame is_out_of_time counted_at told_by ping_after feedback_in next_sequence feedback_after fault_after is_read read_status read_id read_stored among listed_ids int8_ids uint8_ids uint16_ids uint32_ids kind_of parameter_info control_mode_from_raw is_mode host_candidates
+unfolding answers after one reading flags flags_in refused_in refused_by failed_by run same_bytes named_among station_by empty held full add put place moves_to hears_to leaves lone_by route admission enter admit source_of refused hears frame_said state_after readings_after accepts_frame is_out_of_time counted_at told_by ping_after feedback_in next_sequence feedback_after fault_after is_read read_status read_id read_stored among listed_ids int8_ids uint8_ids uint16_ids uint32_ids kind_of parameter_info control_mode_from_raw is_mode host_candidates
 examples-hold = (codec.examples-hold, refl, refl, refl)

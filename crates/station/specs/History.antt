@@ -1,10 +1,8 @@
 -- Whole lists of calls, and the history of one motor in them. Definitions only.
-use Rattle.std.specs.Prelude.{ℕ, Bool, true, false, ◌&&◌, cond, List, [], ◌∷◌, map, eqb}
-use Rattle.std.proofs.Math.Option.{Option, none, some}
+use Rattle.std.specs.Prelude.{ℕ, Bool, true, false, ◌&&◌, cond, List, [], ◌∷◌, map, eqb, Ok, Err, Option, None, Some}
 use Rattle.motor.specs.Lone.{Lone}
 use Rattle.motor.specs.Receive.{accepts_frame}
 use Rattle.codec.specs.declared.bus.CanFrame.{CanFrame}
-use Rattle.codec.specs.declared.error.Checked.TheVariants as checked
 use Rattle.station.specs.declared.call.Answer.{Answer}
 use Rattle.station.specs.declared.call.Answer.TheVariants as answer
 use Rattle.station.specs.declared.call.Asked.{Asked}
@@ -40,8 +38,8 @@ after s (c ∷ cs) = after (station_call s c).1 cs
 
 -- a removal of m that isn't refused
 unfoldable pub answered_ok : Answer → Bool
-answered_ok (answer.Told checked.Passed) = true
-answered_ok (answer.Told (checked.Refused r)) = false
+answered_ok (answer.Told (Ok tt)) = true
+answered_ok (answer.Told (Err r)) = false
 answered_ok (answer.Moved s) = false
 answered_ok (answer.Looked k) = false
 
@@ -71,10 +69,10 @@ history m xs = map (λ (x : Told). x.0) (own m xs)
 -- the lone motor fed calls of its own: its story, and what it holds at the end; none once it is removed
 unfoldable pub alone : Option Lone → List Asked → List Told
 alone o [] = []
-alone none (c ∷ cs) = []
-alone (some h) (c ∷ cs) = (c, (lone h c).0) ∷ alone (lone h c).1 cs
+alone None (c ∷ cs) = []
+alone (Some h) (c ∷ cs) = (c, (lone h c).0) ∷ alone (lone h c).1 cs
 
 unfoldable pub holds : Option Lone → List Asked → Option Lone
 holds o [] = o
-holds none (c ∷ cs) = none
-holds (some h) (c ∷ cs) = holds (lone h c).1 cs
+holds None (c ∷ cs) = None
+holds (Some h) (c ∷ cs) = holds (lone h c).1 cs

@@ -1,11 +1,8 @@
 -- The station over places that hold lone motors, and the lone motor's answers. Definitions only.
-use Rattle.std.specs.Prelude.{ℕ, ◌%◌, ◌≡◌, Bool, true, false, cond, List, [], ◌∷◌, ◌++◌, eqb, replicate}
-use Rattle.std.proofs.Math.Option.{Option, none, some}
+use Rattle.std.specs.Prelude.{ℕ, ◌%◌, ◌≡◌, Bool, true, false, cond, List, [], ◌∷◌, ◌++◌, eqb, replicate, Some, None, Result, Ok, Err, ⊤, Option, is_some}
+use Rattle.codec.specs.declared.error.Refusal.{Refusal}
+use Rattle.codec.specs.declared.model.Model.{Model}
 use Rattle.codec.specs.declared.bus.CanFrame.{CanFrame}
-use Rattle.codec.specs.declared.error.Checked.{Checked}
-use Rattle.codec.specs.declared.error.Checked.TheVariants as checked
-use Rattle.codec.specs.declared.model.ModelNamed.{ModelNamed}
-use Rattle.codec.specs.declared.model.ModelNamed.TheVariants as named
 use Rattle.motor.specs.Calls.{register_numbers}
 use Rattle.motor.specs.Lone.{Lone, LoneAnswered, LoneHeard, lone_new, lone_again, lone_start, lone_step, hears, lone_look, lone_removal}
 use Rattle.motor.specs.Numbers.{plain, numbered, first_of}
@@ -29,13 +26,9 @@ empty = replicate most_motors free
 
 -- what is held for the id; none where it isn't registered
 unfoldable pub held : List Place → ℕ → Option Lone
-held [] m = none
+held [] m = None
 held (free ∷ s) m = held s m
-held (taken i h ∷ s) m = cond (eqb i m) (some h) (held s m)
-
-unfoldable pub is_some : Option Lone → Bool
-is_some none = false
-is_some (some h) = true
+held (taken i h ∷ s) m = cond (eqb i m) (Some h) (held s m)
 
 -- 8 motors registered
 unfoldable pub full : List Place → Bool
@@ -50,8 +43,8 @@ add (free ∷ s) m h = taken m h ∷ s
 add (taken i k ∷ s) m h = taken i k ∷ add s m h
 
 unfoldable pub place : ℕ → Option Lone → Place
-place m none = free
-place m (some h) = taken m h
+place m None = free
+place m (Some h) = taken m h
 
 -- what is held for the id replaced; with none its place is free
 unfoldable pub put : List Place → ℕ → Option Lone → List Place
@@ -63,26 +56,26 @@ put (taken i h ∷ s) m o = cond (eqb i m) (place i o ∷ s) (taken i h ∷ put 
 abbrev pub Distinct : List Place → Type 0
 Distinct [] = Unit {0}
 Distinct (free ∷ s) = Distinct s
-Distinct (taken i h ∷ s) = (held s i ≡ none) × Distinct s
+Distinct (taken i h ∷ s) = (held s i ≡ None) × Distinct s
 
 -- ---- the lone motor: what it answers, and what it holds afterwards; none once it is removed
 
 unfoldable pub moves_to : LoneAnswered → Reply × Option Lone
-moves_to a = (says a.said a.frame a.result, some a.lone)
+moves_to a = (says a.said a.frame a.result, Some a.lone)
 
 unfoldable pub hears_to : LoneHeard → Reply × Option Lone
-hears_to h = (answered h.said, some h.lone)
+hears_to h = (answered h.said, Some h.lone)
 
-unfoldable pub leaves : Lone → Checked → Option Lone
-leaves h checked.Passed = none
-leaves h (checked.Refused r) = some h
+unfoldable pub leaves : Lone → Result ⊤ Refusal → Option Lone
+leaves h (Ok tt) = None
+leaves h (Err r) = Some h
 
 unfoldable pub lone_by : Lone → Call → CanFrame → Reply × Option Lone
-lone_by h (call.Register m host model wait time) f = (answered (lone_again m host model wait time), some h)
+lone_by h (call.Register m host model wait time) f = (answered (lone_again m host model wait time), Some h)
 lone_by h (call.Start m c now) f = moves_to (lone_start h c now)
 lone_by h (call.Step m now) f = moves_to (lone_step h now)
 lone_by h (call.Frame now) f = hears_to (hears h f now)
-lone_by h (call.Look m) f = (shows (lone_look h), some h)
+lone_by h (call.Look m) f = (shows (lone_look h), Some h)
 lone_by h (call.Remove m now) f = (answered (lone_removal h now), leaves h (lone_removal h now))
 
 abbrev pub lone : Lone → Asked → Reply × Option Lone
@@ -92,22 +85,22 @@ lone h a = lone_by h a.call a.frame
 
 -- a call goes to what is held for the motor m, and is refused where nothing is
 unfoldable pub route : List Place → ℕ → Option Lone → Reply → (Lone → Reply × Option Lone) → Reply × List Place
-route s m none refusal visit = (refusal, s)
-route s m (some h) refusal visit = ((visit h).0, put s m (visit h).1)
+route s m None refusal visit = (refusal, s)
+route s m (Some h) refusal visit = ((visit h).0, put s m (visit h).1)
 
 -- Register: 1, 2, 3, 9, 7, 5, 4
-unfoldable pub admission : List Place → ℕ → ℕ → ModelNamed → ℕ → ℕ → Checked
+unfoldable pub admission : List Place → ℕ → ℕ → Option Model → ℕ → ℕ → Result ⊤ Refusal
 admission s m host model wait time =
     first_of (register_numbers m host model wait time ++ numbered [] ((is_some (held s m), 5) ∷ (full s, 4) ∷ []))
 
 -- passed, the model is known: 3 comes before
-unfoldable pub enter : List Place → ℕ → ℕ → ModelNamed → ℕ → ℕ → Reply × List Place
-enter s m host (named.Known model) wait time = (ok, add s m (lone_new m host model wait time))
-enter s m host named.Unknown wait time = (no (plain 3), s)
+unfoldable pub enter : List Place → ℕ → ℕ → Option Model → ℕ → ℕ → Reply × List Place
+enter s m host (Some model) wait time = (ok, add s m (lone_new m host model wait time))
+enter s m host None wait time = (no (plain 3), s)
 
-unfoldable pub admit : Checked → List Place → ℕ → ℕ → ModelNamed → ℕ → ℕ → Reply × List Place
-admit checked.Passed s m host model wait time = enter s m host model wait time
-admit (checked.Refused r) s m host model wait time = (no r, s)
+unfoldable pub admit : Result ⊤ Refusal → List Place → ℕ → ℕ → Option Model → ℕ → ℕ → Reply × List Place
+admit (Ok tt) s m host model wait time = enter s m host model wait time
+admit (Err r) s m host model wait time = (no r, s)
 
 -- the motor that a frame comes from: the low byte of the extra field
 unfoldable pub source_of : CanFrame → ℕ

@@ -1,7 +1,6 @@
 -- What bounds an operation of a motor on the station, along any list of calls from a new station: the frames that it sends, the due
 -- steps that it needs, when it waits, the due times that it gives. The motor's bounds are Rattle.motor's specs/Bounds. Definitions only.
-use Rattle.std.specs.Prelude.{ℕ, ◌+◌, ◌≤◌, ◌<◌, ◌≡◌, Bool, true, false, cond, not, ◌&&◌, List, [], ◌∷◌}
-use Rattle.std.proofs.Math.Option.{Option, none, some}
+use Rattle.std.specs.Prelude.{ℕ, ◌+◌, ◌≤◌, ◌<◌, ◌≡◌, Bool, true, false, cond, not, ◌&&◌, List, [], ◌∷◌, Option, None, Some}
 use Rattle.motor.specs.declared.engine.command.Command.{Command}
 use Rattle.motor.specs.declared.engine.command.Said.TheVariants as said
 use Rattle.motor.specs.Bounds.{step as stepped, has_frame, is_due, once, most_frames_of, GivenWithin, is_pausing}
@@ -22,8 +21,8 @@ use Rattle.station.specs.Demand2.{unrefused}
 
 -- an operation runs
 abbrev pub runs_in : Option Lone → Bool
-runs_in none = false
-runs_in (some h) = not (is_idle h.state.operation.phase)
+runs_in None = false
+runs_in (Some h) = not (is_idle h.state.operation.phase)
 
 -- an answer that comes with a frame
 abbrev pub sends_in : Answer → Bool
@@ -33,13 +32,13 @@ sends_in (answer.Looked k) = false
 
 -- a step that 7 and 21 don't refuse, at or after the last due time given
 abbrev pub due_in : Option Lone → Call → Bool
-due_in none c = false
-due_in (some h) (call.Register m host model wait time) = false
-due_in (some h) (call.Start m c now) = false
-due_in (some h) (call.Step m now) = is_due h (stepped now)
-due_in (some h) (call.Frame now) = false
-due_in (some h) (call.Look m) = false
-due_in (some h) (call.Remove m now) = false
+due_in None c = false
+due_in (Some h) (call.Register m host model wait time) = false
+due_in (Some h) (call.Start m c now) = false
+due_in (Some h) (call.Step m now) = is_due h (stepped now)
+due_in (Some h) (call.Frame now) = false
+due_in (Some h) (call.Look m) = false
+due_in (Some h) (call.Remove m now) = false
 
 module _ (m : ℕ) where
   abbrev pub sends_to : List Place → Asked → Bool
@@ -58,8 +57,8 @@ module _ (m : ℕ) where
 -- a due time in the answer lies between now and now + 60,000, that of a wait after now; it is the one that the motor then holds
 abbrev pub DueWithin : ℕ → Answer → Option Lone → Type 0
 DueWithin now (answer.Told k) o = Unit {0}
-DueWithin now (answer.Moved s) none = Unit {0}
-DueWithin now (answer.Moved s) (some h) = GivenWithin longest_timeout now s h.state.operation.due
+DueWithin now (answer.Moved s) None = Unit {0}
+DueWithin now (answer.Moved s) (Some h) = GivenWithin longest_timeout now s h.state.operation.due
 DueWithin now (answer.Looked k) o = Unit {0}
 
 abbrev pub DueOf : ℕ → ℕ → Reply × List Place → Type 0
@@ -69,8 +68,8 @@ DueOf m now r = DueWithin now r.0.replied.answer (held r.1 m)
 
 -- the operation stands in a pause
 abbrev pub pauses_in : Option Lone → Bool
-pauses_in none = false
-pauses_in (some h) = is_pausing h.state.operation.phase
+pauses_in None = false
+pauses_in (Some h) = is_pausing h.state.operation.phase
 
 -- ---- the theorem
 
@@ -89,7 +88,7 @@ pub record StationBounds : Type 0 where
       → tally m (due_to m) a.1 later ≤ most_due_steps
   pub waits : (before : List Asked) (m : ℕ) (h : Lone) (now d : ℕ)
       → let a = station_call (after empty before) (step m now) in
-      held (after empty before) m ≡ some h
+      held (after empty before) m ≡ Some h
       → h.state.operation.due ≤ now
       → a.0.replied.answer ≡ answer.Moved (said.Waiting d)
       → (now < d) × (h.state.operation.due < d) × (pauses_in (held a.1 m) ≡ true)

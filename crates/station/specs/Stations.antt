@@ -1,19 +1,16 @@
 -- What the station's functions give on any station, and what it is for a station to be document 01's. Definitions only.
-use Rattle.std.specs.Prelude.{ℕ, zero, suc, ◌≡◌, cond, List, [], ◌∷◌, eqb, ltb, length, get_or, set, replicate}
+use Rattle.std.specs.Prelude.{ℕ, zero, suc, ◌≡◌, cond, List, [], ◌∷◌, eqb, ltb, length, get_or, set, replicate, position, Option, None, Result, Ok, Err, ⊤}
+use Rattle.codec.specs.Numbers.{said_in}
+use Rattle.codec.specs.declared.error.Refusal.{Refusal}
 use Rattle.codec.specs.declared.bus.CanFrame.{CanFrame}
-use Rattle.codec.specs.declared.error.Checked.{Checked}
-use Rattle.codec.specs.declared.error.Checked.TheVariants as checked
 use Rattle.codec.specs.declared.model.Model.{Model}
 use Rattle.codec.specs.declared.model.Model.TheVariants as models
-use Rattle.codec.specs.declared.model.ModelNamed.{ModelNamed}
 use Rattle.motor.specs.declared.engine.command.Command.{Command}
 use Rattle.motor.specs.declared.engine.command.Said.TheVariants as said
 use Rattle.motor.specs.declared.motor.Answered.{Answered}
 use Rattle.motor.specs.declared.motor.Motor.{Motor}
 use Rattle.motor.specs.declared.motor.Seen.{Seen}
 use Rattle.motor.specs.declared.receive.Heard.{Heard}
-use Rattle.motor.specs.declared.registration.Admission.{Admission}
-use Rattle.motor.specs.declared.registration.Admission.TheVariants as admission
 use Rattle.motor.specs.Calls.{registration_of}
 use Rattle.motor.specs.Lone.{Lone}
 use Rattle.motor.specs.Motors.{new_motor, start_of, step_of, look_of, removal_of}
@@ -22,7 +19,6 @@ use Rattle.motor.specs.Receive.{accepts_frame, process_feedback_frame}
 use Rattle.motor.specs.Numbers.{plain}
 use Rattle.station.specs.declared.station.Station.{Station}
 use Rattle.station.specs.declared.station.After.{After}
-use Rattle.station.specs.declared.station.Looked.{Looked}
 use Rattle.station.specs.declared.call.Answer.TheVariants as answer
 use Rattle.station.specs.declared.call.Asked.{Asked}
 use Rattle.station.specs.declared.call.Call.{Call}
@@ -50,6 +46,17 @@ place_of (m ∷ ms) id = cond (eqb m.state.motor_id id) zero (suc (place_of ms i
 unfoldable pub taken_place : List Motor → ℕ → ℕ
 taken_place ms id = cond (eqb id 0) most_motors (place_of ms id)
 
+-- the same as the code finds them: the first place of an id, and that of a registered id, or none
+abbrev pub find_place : List Motor → ℕ → Option ℕ
+find_place ms id = position (λ m. eqb m.state.motor_id id) ms
+
+abbrev pub find_motor : List Motor → ℕ → Option ℕ
+find_motor ms id = cond (eqb id 0) None (find_place ms id)
+
+-- a station is its eight places
+abbrev pub station_of : List Motor → Station
+station_of ms = record { motors = ms }
+
 abbrev pub motor_at : Station → ℕ → Motor
 motor_at st i = get_or st.motors i free_motor
 
@@ -66,7 +73,7 @@ at_place st id found none = cond (ltb (taken_place st.motors id) most_motors) (f
 abbrev pub left : Station → Replied → After
 left st r = record { station = st; replied = r }
 
-abbrev pub tell : Station → Checked → After
+abbrev pub tell : Station → Result ⊤ Refusal → After
 tell st said = left st (told said)
 
 abbrev pub moved_at : Station → ℕ → Answered → After
@@ -78,26 +85,26 @@ not_moved st = left st (reply (answer.Moved (said.Refused (plain 6))))
 abbrev pub heard_at : Station → ℕ → Heard → After
 heard_at st i h = tell (with_motor st i h.motor) h.said
 
-abbrev pub removed_at : Checked → Station → ℕ → After
-removed_at checked.Passed st i = tell (with_motor st i free_motor) checked.Passed
-removed_at (checked.Refused r) st i = tell st (checked.Refused r)
+abbrev pub removed_at : Result ⊤ Refusal → Station → ℕ → After
+removed_at (Ok tt) st i = tell (with_motor st i free_motor) (Ok tt)
+removed_at (Err r) st i = tell st (Err r)
 
 -- the first free place is that of the id 0
 unfoldable pub entered_in : Station → Motor → After
 entered_in st m =
     cond (ltb (place_of st.motors 0) most_motors)
-    (tell (with_motor st (place_of st.motors 0) m) checked.Passed)
-    (tell st (checked.Refused (plain 4)))
+    (tell (with_motor st (place_of st.motors 0) m) (Ok tt))
+    (tell st (Err (plain 4)))
 
 unfoldable pub admitted_in : Station → ℕ → ℕ → Model → ℕ → ℕ → After
 admitted_in st id host model wait time =
-    at_place st id (λ i. tell st (checked.Refused (plain 5))) (entered_in st (new_motor id host model wait time))
+    at_place st id (λ i. tell st (Err (plain 5))) (entered_in st (new_motor id host model wait time))
 
-abbrev pub register_by : Admission → Station → ℕ → ℕ → ℕ → ℕ → After
-register_by (admission.Admitted model) st id host wait time = admitted_in st id host model wait time
-register_by (admission.Refused r) st id host wait time = tell st (checked.Refused r)
+abbrev pub register_by : Result Model Refusal → Station → ℕ → ℕ → ℕ → ℕ → After
+register_by (Ok model) st id host wait time = admitted_in st id host model wait time
+register_by (Err r) st id host wait time = tell st (Err r)
 
-unfoldable pub register_in : Station → ℕ → ℕ → ModelNamed → ℕ → ℕ → After
+unfoldable pub register_in : Station → ℕ → ℕ → Option Model → ℕ → ℕ → After
 register_in st id host model wait time = register_by (registration_of id host model wait time) st id host wait time
 
 unfoldable pub start_in : Station → ℕ → Command → ℕ → After
@@ -108,21 +115,21 @@ step_in st id now = at_place st id (λ i. moved_at st i (step_of (motor_at st i)
 
 unfoldable pub frame_in : Station → CanFrame → ℕ → After
 frame_in st f now =
-    let other = tell st (checked.Refused (plain 13)) in
+    let other = tell st (Err (plain 13)) in
     cond (accepts_frame (source_of f) f) (at_place st (source_of f) (λ i. heard_at st i (process_feedback_frame (motor_at st i) f now)) other) other
 
-unfoldable pub look_in : Station → ℕ → Looked
+unfoldable pub look_in : Station → ℕ → Result Seen Refusal
 look_in st id =
-    at_place st id (λ i. record { said = checked.Passed; seen = look_of (motor_at st i) })
-    (record { said = checked.Refused (plain 6); seen = look_of free_motor })
+    at_place st id (λ i. Ok (look_of (motor_at st i)))
+    (Err (plain 6))
 
 unfoldable pub remove_in : Station → ℕ → ℕ → After
 remove_in st id now =
-    at_place st id (λ i. removed_at (removal_of (motor_at st i) now) st i) (tell st (checked.Refused (plain 6)))
+    at_place st id (λ i. removed_at (removal_of (motor_at st i) now) st i) (tell st (Err (plain 6)))
 
 -- a look's reply; what it shows stands beside it
 abbrev pub looked_in : Station → ℕ → After
-looked_in st id = left st (reply (answer.Looked (look_in st id).said))
+looked_in st id = left st (reply (answer.Looked (said_in (look_in st id))))
 
 -- what is asked: each call with its arguments
 abbrev pub call_by : Station → Call → CanFrame → After
@@ -167,9 +174,6 @@ pub record LeavesAs (r : After) (a : Reply × List Place) : Type 0 where
   pub answer : gives r.replied ≡ a.0
   pub station : Shows r.station a.1
 
-abbrev pub shown_by : Checked → Seen → Reply
-shown_by checked.Passed v = shows v
-shown_by (checked.Refused n) v = gives (reply (answer.Looked (checked.Refused n)))
-
-abbrev pub reply_of : Looked → Reply
-reply_of r = shown_by r.said r.seen
+abbrev pub reply_of : Result Seen Refusal → Reply
+reply_of (Ok v) = shows v
+reply_of (Err n) = gives (reply (answer.Looked (Err n)))

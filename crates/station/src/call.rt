@@ -3,8 +3,8 @@ ghost use Rattle.std.specs.Prelude.{◌≡◌};
 ghost use Rattle.station.specs.Calls as spec;
 
 use codec::bus::CanFrame;
-use codec::error::{Checked, Refusal};
-use codec::model::ModelNamed;
+use codec::error::Refusal;
+use codec::model::Model;
 use motor::engine::command::{Command, Said};
 use motor::engine::requests::no_frame;
 
@@ -14,7 +14,7 @@ pub enum Call {
     Register {
         id: u16,
         host: u16,
-        model: ModelNamed,
+        model: Option<Model>,
         wait: u64,
         time: u64,
     },
@@ -49,9 +49,9 @@ pub struct Asked {
 // What is answered: to a registration, a frame or a removal; to a start or a step; to a look, which shows all held beside it.
 #[derive(Clone, Copy)]
 pub enum Answer {
-    Told(Checked),
+    Told(Result<(), Refusal>),
     Moved(Said),
-    Looked(Checked),
+    Looked(Result<(), Refusal>),
 }
 
 // An answer, with a start's or a step's frame and result bytes.
@@ -73,7 +73,7 @@ pub(crate) fn reply(answer: Answer) -> Replied
     }
 }
 
-pub(crate) fn told(said: Checked) -> Replied
+pub(crate) fn told(said: Result<(), Refusal>) -> Replied
     ensures { result ≡ spec.told said }
 {
     reply(Answer::Told(said))
@@ -91,42 +91,17 @@ pub(crate) fn moved(said: Said, frame: CanFrame, res: [u8; 8]) -> Replied
     }
 }
 
-// A call refused before any motor takes it.
-pub(crate) fn refused(call: Call, refusal: Refusal) -> Replied
-    ensures { result ≡ spec.refused call refusal }
-{
-    match call {
-        Call::Start {
-            id: _,
-            command: _,
-            time: _,
-        } => reply(Answer::Moved(Said::Refused(refusal))),
-        Call::Step { id: _, time: _ } => reply(Answer::Moved(Said::Refused(refusal))),
-        Call::Look { id: _ } => reply(Answer::Looked(Checked::Refused(refusal))),
-        _ => told(Checked::Refused(refusal)),
-    }
-}
-
 // The call's time; a look has none.
+#[tactic(auto, unfolding(crate::specs::Calls::time_of))]
 pub fn time_of(call: Call) -> u64
     ensures { result ≡ spec.time_of call }
 {
     match call {
-        Call::Register {
-            id: _,
-            host: _,
-            model: _,
-            wait: _,
-            time,
-        } => time,
-        Call::Start {
-            id: _,
-            command: _,
-            time,
-        } => time,
-        Call::Step { id: _, time } => time,
-        Call::Frame { time } => time,
-        Call::Look { id: _ } => 0,
-        Call::Remove { id: _, time } => time,
+        Call::Register { time, .. }
+        | Call::Start { time, .. }
+        | Call::Step { time, .. }
+        | Call::Frame { time }
+        | Call::Remove { time, .. } => time,
+        Call::Look { .. } => 0,
     }
 }

@@ -3,6 +3,7 @@
 #![tactic(auto)]
 
 pub mod call;
+mod calls;
 pub mod lent;
 pub mod limits;
 mod place;

@@ -1,56 +1,35 @@
 // The eight places of a station. A place is free where its motor has the id 0, which no registration takes.
-ghost use Rattle.std.specs.Prelude.{◌≡◌, ◌<◌, length, get_or, set};
+ghost use Rattle.std.specs.Prelude.{◌≡◌, ◌<◌, IfSome};
 ghost use Rattle.station.specs.Limits.{most_motors};
-ghost use Rattle.station.specs.Stations.{free_motor, place_of, taken_place};
+ghost use Rattle.station.specs.Stations.{free_motor, find_place, find_motor};
 
 use crate::limits::MOTORS;
 use codec::model::Model;
 use motor::motor::{Motor, new};
 
 // What stands in a free place.
+#[tactic(auto, unfolding(crate::specs::Stations::free_motor))]
 pub(crate) fn free_motor() -> Motor
     ensures { result ≡ free_motor }
 {
     new(0, 0, Model::Rs00, 0, 0)
 }
 
-// The first place of an id, 8 where there is none. That of 0 is the first free place.
-pub(crate) fn place_of(motors: [Motor; MOTORS], id: u16) -> usize
-    ensures { (result ≡ place_of motors id) × (length motors ≡ most_motors) }
+// The first place of an id. That of 0 is the first free place.
+pub(crate) fn find_place(motors: &[Motor; MOTORS], id: u16) -> Option<usize>
+    ensures is { result ≡ find_place motors.now id }
+    ensures inside { IfSome result (λ i. i < most_motors) }
 {
-    let mut i: usize = 0;
-    while i < MOTORS {
-        if motors[i].state.motor_id == id {
-            return i;
-        }
-        i += 1;
-    }
-    MOTORS
+    motors.iter().position(|m| m.state.motor_id == id)
 }
 
-// The place of a registered motor, 8 where the id isn't registered.
-pub(crate) fn taken_place(motors: [Motor; MOTORS], id: u16) -> usize
-    ensures { result ≡ taken_place motors id }
+// The place of a registered motor.
+pub(crate) fn find_motor(motors: &[Motor; MOTORS], id: u16) -> Option<usize>
+    ensures is { result ≡ find_motor motors.now id }
+    ensures inside { IfSome result (λ i. i < most_motors) }
 {
     if id == 0 {
-        return MOTORS;
+        return None;
     }
-    place_of(motors, id)
-}
-
-pub(crate) fn motor_at(motors: [Motor; MOTORS], i: usize) -> Motor
-    requires { i < most_motors }
-    ensures { result ≡ get_or motors i free_motor }
-{
-    motors[i]
-}
-
-// The places with one of them replaced.
-pub(crate) fn replaced(motors: [Motor; MOTORS], i: usize, m: Motor) -> [Motor; MOTORS]
-    requires { i < most_motors }
-    ensures { result ≡ set motors i m }
-{
-    let mut after = motors;
-    after[i] = m;
-    after
+    find_place(motors, id)
 }

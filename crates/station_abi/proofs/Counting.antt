@@ -1,25 +1,23 @@
 -- One frame more: what a loop has counted, and what is left to count, stay the same together. Assumes nothing.
-use Prim.Native.Nat.{ℕ, zero, suc, ◌+◌, ◌-◌, ◌^◌, ◌≤◌, ◌<◌}
-use mathlib.Core.Path.{◌≡◌, refl, ap}
+use Rattle.std.specs.Prelude.{Result, Ok, Err, ⊤}
+use Prim.Native.Nat.{ℕ, suc, ◌+◌, ◌-◌, ◌≤◌, ◌<◌}
+use mathlib.Core.Path.{◌≡◌, refl, ap, ◌∙◌}
 use native.Mathlib.Omega.{arith}
+use Rattle.codec.specs.declared.error.Refusal.{Refusal}
 use Rattle.codec.specs.declared.bus.CanFrame.{CanFrame}
-use Rattle.codec.specs.declared.error.Checked.{Checked}
-use Rattle.codec.specs.declared.error.Checked.TheVariants as checked
 use Rattle.station.specs.declared.call.Answer.{Answer}
 use Rattle.station.specs.declared.call.Answer.TheVariants as answer
-use Rattle.station.specs.declared.call.Asked.{Asked}
+use Rattle.station.specs.declared.call.Call.TheVariants as call
 use Rattle.station.specs.declared.call.Replied.{Replied}
 use Rattle.station.specs.declared.station.After.{After}
 use Rattle.station.specs.declared.station.Station.{Station}
 use Rattle.station.specs.Stations.{frame_in, call_in}
-use Rattle.station_abi.specs.declared.beats.Beat.{Beat}
-use Rattle.station_abi.specs.Beats.{asked_at, next_beat, counted_by}
 use Rattle.station_abi.specs.Loaded.{last_parameter, loaded_to}
 use Rattle.station_abi.specs.Frames.{next_id, next_frame, is_passed, passed_in, passed_of, motors_of, taken_from, frames_by_value}
 
-said-le : (k : Checked) → is_passed k ≤ 1
-said-le checked.Passed = omega arith
-said-le (checked.Refused r) = omega arith
+said-le : (k : Result ⊤ Refusal) → is_passed k ≤ 1
+said-le (Ok tt) = omega arith
+said-le (Err r) = omega arith
 
 passed-le : (a : Answer) → passed_in a ≤ 1
 passed-le (answer.Told k) = said-le k
@@ -47,10 +45,15 @@ module _ (motors kind parameter : ℕ) (st : Station) (id : ℕ) where
       let k = next-taken (times - (count + 1)) in
       rw (p, q, g, e) (omega (arith, rw (s, k) at h))
 
-  pub begins : (times : ℕ) → 0 + taken_from motors kind parameter st id (times - 0) ≡ taken_from motors kind parameter st id times
-  begins times =
-      let e : times - 0 ≡ times = omega arith in
-      rw e (omega arith)
+  -- the same of a turn on the lent station
+  pub turn_lent : (times count taken total passed following : ℕ) (f : CanFrame) (replied : Replied) (after : Station) → count < times → f ≡ next_frame kind id parameter
+      → replied ≡ (call_in st (record { call = call.Frame 0; frame = f })).replied → after ≡ (call_in st (record { call = call.Frame 0; frame = f })).station
+      → passed ≡ passed_of replied → following ≡ next_id id motors
+      → taken + taken_from motors kind parameter st id (times - count) ≡ total
+      → (taken + passed) + taken_from motors kind parameter after following (times - (count + 1)) ≡ total
+  unfolding call_in
+  turn_lent times count taken total passed following f replied after l e r s p q h =
+      rw s (turn times count taken total passed following f (frame_in st f 0) l e refl (p ∙ ap passed_of r) q h)
 
   pub ends : (taken left total : ℕ) → left ≡ 0 → taken + taken_from motors kind parameter st id left ≡ total → taken ≡ total
   unfolding taken_from
@@ -60,33 +63,3 @@ pub whole : (motors held kind times m p taken : ℕ) (st : Station) → m ≡ mo
     → taken ≡ taken_from m kind p st 1 times → taken ≡ frames_by_value motors held kind times
 unfolding frames_by_value
 whole motors held kind times m p taken st e f g h = rw (g, f, e) at h
-
--- ---- the same of a turn on the lent station
-
-pub one-beat : (st next : Station) (b : Beat) (p : Asked) (o : Replied) → p ≡ asked_at b → o ≡ (call_in st p).replied → next ≡ (call_in st p).station
-    → 0 < b.left → b.passed + b.left < 2 ^ 64
-    → ((next_beat b o).passed + (next_beat b o).left < 2 ^ 64) × (counted_by next (next_beat b o) ≡ counted_by st b)
-unfolding asked_at next_beat counted_by call_in
-one-beat st next b p o a c d l small =
-    let after = frame_in st (next_frame b.kind b.id b.parameter) 0 in
-    let r : o ≡ after.replied = rw a at c in
-    let t : next ≡ after.station = rw a at d in
-    let k = passed-small (passed_of o) o refl in
-    let e : b.left ≡ suc (b.left - 1) = omega arith in
-    let n = next-taken b.motors b.kind b.parameter st b.id (b.left - 1) in
-    (omega (arith, k), rw t (omega (arith, ap passed_of r, rw (← e) at n)))
-
-pub no_more : (st : Station) (b : Beat) → (0 < b.left → ⊥) → b.passed ≡ counted_by st b
-unfolding counted_by
-no_more st b over = ends b.motors b.kind b.parameter st b.id b.passed b.left _ (left_over b.left over) refl
-  where
-    left_over : (n : ℕ) → (0 < n → ⊥) → n ≡ 0
-    left_over zero l = refl
-    left_over (suc n) l = absurd (l (omega arith))
-
--- from nothing counted
-pub from-none : (st : Station) (motors kind parameter times taken : ℕ)
-    → taken ≡ counted_by st (record { left = times; passed = 0; kind = kind; id = 1; motors = motors; parameter = parameter })
-    → taken ≡ taken_from motors kind parameter st 1 times
-unfolding counted_by
-from-none st motors kind parameter times taken e = omega (arith, e)

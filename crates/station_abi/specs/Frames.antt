@@ -1,8 +1,7 @@
 -- Frames handed in round robin over the motors of a loaded station, and how many were not refused. Definitions only.
-use Rattle.std.specs.Prelude.{ℕ, zero, suc, ◌+◌, cond, eqb, ltb}
+use Rattle.std.specs.Prelude.{ℕ, zero, suc, ◌+◌, cond, eqb, ltb, Result, Ok, Err, ⊤}
+use Rattle.codec.specs.declared.error.Refusal.{Refusal}
 use Rattle.codec.specs.declared.bus.CanFrame.{CanFrame}
-use Rattle.codec.specs.declared.error.Checked.{Checked}
-use Rattle.codec.specs.declared.error.Checked.TheVariants as checked
 use Rattle.station.specs.declared.call.Answer.{Answer}
 use Rattle.station.specs.declared.call.Answer.TheVariants as answer
 use Rattle.station.specs.declared.call.Replied.{Replied}
@@ -22,9 +21,9 @@ unfoldable pub next_frame : ℕ → ℕ → ℕ → CanFrame
 next_frame kind id parameter = cond (eqb kind 0) (status_frame id) (read_reply id parameter)
 
 -- 1 where nothing was refused
-abbrev pub is_passed : Checked → ℕ
-is_passed checked.Passed = 1
-is_passed (checked.Refused r) = 0
+abbrev pub is_passed : Result ⊤ Refusal → ℕ
+is_passed (Ok tt) = 1
+is_passed (Err r) = 0
 
 abbrev pub passed_in : Answer → ℕ
 passed_in (answer.Told said) = is_passed said

@@ -1,3 +1,2 @@
 pub mod Loaded
 pub mod Frames
-pub mod Beats

@@ -1,8 +1,7 @@
 -- The frames that are handed in, and the stations to begin with. Definitions only.
-use Rattle.std.specs.Prelude.{ℕ, zero, suc, ◌+◌, ◌-◌, ◌/◌, ◌%◌, true, cond, List, [], ◌∷◌, eqb, ltb}
+use Rattle.std.specs.Prelude.{ℕ, zero, suc, ◌+◌, ◌-◌, ◌/◌, ◌%◌, true, cond, List, [], ◌∷◌, eqb, ltb, Some}
 use Rattle.codec.specs.declared.bus.CanFrame.{CanFrame}
 use Rattle.codec.specs.declared.model.Model.TheVariants as model
-use Rattle.codec.specs.declared.model.ModelNamed.TheVariants as named
 use Rattle.codec.specs.Ids.{build_ext_id}
 use Rattle.motor.specs.Limits.{most_readings}
 use Rattle.station.specs.declared.station.Station.{Station}
@@ -31,7 +30,7 @@ last_parameter held = cond (eqb held 0) first (cond (ltb most_readings held) (fi
 -- the motors 1, 2, ..
 unfoldable pub registered_of : ℕ → Station
 registered_of zero = new_station
-registered_of (suc k) = (register_in (registered_of k) (suc k) 253 (named.Known model.Rs00) 0 0).station
+registered_of (suc k) = (register_in (registered_of k) (suc k) 253 (Some model.Rs00) 0 0).station
 
 -- a reply of each of them for one parameter
 unfoldable pub read_by_all : Station → ℕ → ℕ → Station

@@ -1,24 +1,23 @@
 // Frames handed in round robin over the motors.
 ghost use Rattle.std.specs.Prelude.{◌≡◌};
-ghost use Rattle.station_abi.specs.Frames.{motors_of, next_id, next_frame, is_passed, passed_of, frames_by_value};
+ghost use Rattle.station_abi.specs.Frames.{motors_of, next_id, next_frame, passed_of, frames_by_value, frames_in_place};
 
 use crate::loaded::{last_parameter, loaded, read_reply, status_frame};
 use codec::bus::CanFrame;
-use codec::error::Checked;
-use station::call::{Answer, Replied};
+use station::call::{Answer, Asked, Call, Replied};
+use station::lent::call::call;
 use station::station::frame;
 
 // How many motors there are: at most 8.
+#[tactic(auto, unfolding(crate::specs::Frames::motors_of))]
 pub(crate) fn motors_of(motors: u64) -> u16
     ensures { result ≡ motors_of motors }
 {
-    if 8 < motors {
-        return 8;
-    }
-    motors as u16
+    motors.min(8) as u16
 }
 
 // The motor after this one, round robin.
+#[tactic(auto, unfolding(crate::specs::Frames::next_id))]
 pub(crate) fn next_id(id: u16, motors: u16) -> u16
     ensures { result ≡ next_id id motors }
 {
@@ -29,6 +28,7 @@ pub(crate) fn next_id(id: u16, motors: u16) -> u16
 }
 
 // Kind 0 is a status frame, any other a read reply.
+#[tactic(auto, unfolding(crate::specs::Frames::next_frame))]
 pub(crate) fn next_frame(kind: u64, id: u16, parameter: u16) -> CanFrame
     ensures { result ≡ next_frame kind id parameter }
 {
@@ -38,25 +38,14 @@ pub(crate) fn next_frame(kind: u64, id: u16, parameter: u16) -> CanFrame
     read_reply(id, parameter)
 }
 
-// 1 where nothing was refused.
-fn is_passed(said: Checked) -> u64
-    ensures { result ≡ is_passed said }
-{
-    match said {
-        Checked::Passed => 1,
-        Checked::Refused(_) => 0,
-    }
-}
-
 // 1 where a frame was not refused.
+#[tactic(auto, unfolding(crate::specs::Frames::passed_of))]
 pub(crate) fn passed(replied: Replied) -> u64
     ensures { result ≡ passed_of replied }
 {
-    let answer = replied.answer;
-    match answer {
-        Answer::Told(said) => is_passed(said),
-        Answer::Moved(_) => 0,
-        Answer::Looked(_) => 0,
+    match replied.answer {
+        Answer::Told(said) => u64::from(said.is_ok()),
+        _ => 0,
     }
 }
 
@@ -71,14 +60,32 @@ pub extern "C" fn frames_by_value(motors: u64, held: u64, kind: u64, times: u64)
     let mut st = loaded(motors, held);
     let mut id: u16 = 1;
     let mut taken: u64 = 0;
-    let mut count: u64 = 0;
-    while count < times {
+    for _count in 0..times {
         let after = frame(st, next_frame(kind, id, parameter), 0);
-        let replied = after.replied;
         st = after.station;
-        taken += passed(replied);
+        taken += passed(after.replied);
         id = next_id(id, motors);
-        count += 1;
+    }
+    taken
+}
+
+// As frames_by_value, with the motors lent to each call.
+#[unsafe(no_mangle)]
+pub extern "C" fn frames_in_place(motors: u64, held: u64, kind: u64, times: u64) -> u64
+    ensures { result ≡ frames_in_place motors held kind times }
+{
+    let motors = motors_of(motors);
+    let parameter = last_parameter(held);
+    let mut st = loaded(motors, held);
+    let mut id: u16 = 1;
+    let mut taken: u64 = 0;
+    for _count in 0..times {
+        let asked = Asked {
+            call: Call::Frame { time: 0 },
+            frame: next_frame(kind, id, parameter),
+        };
+        taken += passed(call(&mut st.motors, asked));
+        id = next_id(id, motors);
     }
     taken
 }

@@ -2,6 +2,5 @@
 // is said by the station; both loops promise the same count, by the station's definitions.
 #![tactic(auto)]
 
-pub mod beats;
 pub mod frames;
 pub mod loaded;

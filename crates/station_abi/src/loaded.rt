@@ -37,13 +37,13 @@ pub(crate) fn status_frame(id: u16) -> CanFrame
 pub(crate) fn read_reply(id: u16, parameter: u16) -> CanFrame
     ensures { result ≡ read_reply id parameter }
 {
-    let low = (parameter % 256) as u8;
-    let high = (parameter / 256) as u8;
+    let [low, high] = parameter.to_le_bytes();
     let bytes = [low, high, 0, 0, 0, 0, 0, 0];
     frame_from(id, CommunicationType::READ_PARAMETER, bytes)
 }
 
 // The largest parameter held where so many are, and the first where none is.
+#[tactic(auto, unfolding(crate::specs::Loaded::last_parameter))]
 pub(crate) fn last_parameter(held: u64) -> u16
     ensures { result ≡ last_parameter held }
 {
@@ -61,11 +61,8 @@ fn registered(motors: u16) -> Station
     ensures { result ≡ registered_of motors }
 {
     let mut st = new();
-    let mut count: u16 = 0;
-    while count < motors {
-        count += 1;
-        let after = register(st, count, HOST as u16, b"rs-00", 0, 0);
-        st = after.station;
+    for id in 1..=motors {
+        st = register(st, id, u16::from(HOST), b"rs-00", 0, 0).station;
     }
     st
 }
@@ -75,11 +72,8 @@ fn read_by_all(st: Station, motors: u16, parameter: u16) -> Station
     ensures { result ≡ read_by_all st motors parameter }
 {
     let mut after = st;
-    let mut count: u16 = 0;
-    while count < motors {
-        count += 1;
-        let heard = frame(after, read_reply(count, parameter), 0);
-        after = heard.station;
+    for id in 1..=motors {
+        after = frame(after, read_reply(id, parameter), 0).station;
     }
     after
 }
@@ -89,9 +83,7 @@ pub(crate) fn loaded(motors: u16, held: u64) -> Station
     ensures { result ≡ loaded_to motors held }
 {
     let mut st = registered(motors);
-    let mut count: u64 = 0;
-    while count < held {
-        count += 1;
+    for count in 1..=held {
         st = read_by_all(st, motors, last_parameter(count));
     }
     st

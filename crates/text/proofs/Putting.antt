@@ -1,13 +1,15 @@
 -- One thing put after another is both put. Assumes nothing.
-use Prim.Native.Nat.{ℕ, zero, suc, ◌+◌, ◌-◌, ◌/◌, ◌%◌, ◌≤◌, ◌<◌}
+use Prim.Native.Nat.{ℕ, zero, suc, ◌+◌, ◌-◌, ◌/◌, ◌%◌, ◌≤◌, ◌<◌, max, min}
 use mathlib.Core.Path.{◌≡◌, refl, ap, sym, ◌∙◌}
-use mathlib.Core.List.{List, [], ◌∷◌, ◌++◌}
+use mathlib.Core.List.{List, [], ◌∷◌, ◌++◌, append_assoc}
 use native.Mathlib.Omega.{arith}
 use native.Mathlib.Decide.{dec_le}
 use lib.ListN.{length, take, drop, set, length-append, length-set}
-use lib.Seq.{set_out, sets, sets-eq, length-take-le, take_at, drop_at}
+use lib.Seq.{set_out, sets, sets-eq, length-take-le, take_at, drop_at, take_all}
+use Rattle.std.proofs.Common.{take-append-drop, drop-drop}
 use borrow.Author.Tests.{lt-ltb, le-ltb}
-use Rattle.text.specs.Put.{Put, placed, digits_text, decimal_in, glyph_of}
+use Rattle.text.specs.declared.put.Text.{Text}
+use Rattle.text.specs.Put.{Put, put, text_as_bytes, placed, digits_text, decimal_in, glyph_of}
 
 -- ---- what is placed
 
@@ -50,29 +52,69 @@ module _ {l₀ l₁ bs : List ℕ} {p r : ℕ} (x : Put l₀ p bs l₁ r) (h : p
       let e : length (take p l₀ ++ bs) ≡ r = rw (length-append, length-take-le p l₀ (omega arith)) (omega (arith, put_next)) in
       rw (x.whole, placed-there l₀ p bs h) (drop_at (take p l₀ ++ bs) (drop (p + length bs) l₀) r e ∙ ap (λ (k : ℕ). drop k l₀) (sym put_next))
 
--- ---- one put, and one after another
+-- ---- a text with more put after it
 
-pub put-nil : (l : List ℕ) (at : ℕ) → Put l at [] l at
-put-nil l at = record { same = refl; whole = refl; next = omega arith }
+module _ {N : ℕ} (t : Text N) where
+  -- what is promised of the buffer and the next place
+  pub puts : (bs : List ℕ) → Put t.bytes t.at bs (put t bs).bytes (put t bs).at
+  unfolding put
+  puts bs = record { same = placed-all t.bytes t.at bs; whole = refl; next = refl }
 
-pub put_one : (l : List ℕ) (at b : ℕ) → at < length l → Put l at (b ∷ []) (set l at b) (at + 1)
-put_one l at b h = record { same = simp length-set; whole = refl; next = omega arith }
+  -- where there is room, what was text before, and the bytes
+  pub text-put : (bs : List ℕ) → t.at + length bs ≤ length t.bytes → text_as_bytes (put t bs) ≡ text_as_bytes t ++ bs
+  text-put bs h = put-text (puts bs) h
 
-pub put-none : (l : List ℕ) (at b : ℕ) → length l ≤ at → Put l at (b ∷ []) l at
-put-none l at b h = record { same = refl; whole = sym (set_out l at b h); next = omega arith }
+  -- one byte, where there is room and where there is none
+  pub put_room : (b : ℕ) → t.at < length t.bytes → put t (b ∷ []) ≡ record { bytes = set t.bytes t.at b; at = t.at + 1 }
+  unfolding put
+  put_room b h = let e : max t.at (min (t.at + 1) (length t.bytes)) ≡ t.at + 1 = omega arith in rw e
 
-pub put_then : {l₀ l₁ l₂ a b : List ℕ} {p q r : ℕ} → Put l₀ p a l₁ q → Put l₁ q b l₂ r → Put l₀ p (a ++ b) l₂ r
-put_then {l₀} {l₁} {l₂} {a} {b} {p} {q} {r} x y =
-    record {
-      same = y.same ∙ x.same;
-      whole = y.whole ∙ from_next (dec_le (p + length a) (length l₀)) ∙ ap (λ (l : List ℕ). placed l (p + length a) b) x.whole ∙ sym (placed-then l₀ p a b);
-      next = rw length-append (omega (arith, x.same, x.next, y.next));
-    }
-  where
-    -- past the end one place is as another
-    from_next : Dec (p + length a ≤ length l₀) → placed l₁ q b ≡ placed l₁ (p + length a) b
-    from_next (yes h) = ap (λ (k : ℕ). placed l₁ k b) (omega (arith, x.next))
-    from_next (no h) = placed-none l₁ q b (omega (arith, x.same, x.next)) ∙ sym (placed-none l₁ (p + length a) b (omega (arith, x.same)))
+  pub put_full : (bs : List ℕ) → length t.bytes ≤ t.at → put t bs ≡ t
+  unfolding put
+  put_full bs h = let e : max t.at (min (t.at + length bs) (length t.bytes)) ≡ t.at = omega arith in rw (e, placed-none t.bytes t.at bs h)
+
+  -- as many of the bytes as there is room for
+  pub put_fit : (s : List ℕ) (k : ℕ) → t.at < length t.bytes → k ≡ min (length s) (length t.bytes - t.at)
+      → put t s ≡ record { bytes = take t.at t.bytes ++ (take k s ++ drop k (drop t.at t.bytes)); at = t.at + k }
+  unfolding put
+  put_fit s k h m =
+      let n : max t.at (min (t.at + length s) (length t.bytes)) ≡ t.at + k = omega arith in
+      let l : length (take k s) ≡ k = length-take-le k s (omega arith) in
+      let f : placed t.bytes t.at (take k s) ≡ take t.at t.bytes ++ (take k s ++ drop k (drop t.at t.bytes)) = placed-there t.bytes t.at (take k s) (omega arith) ∙ rw (l, append_assoc, drop-drop k t.at t.bytes) in
+      rw (n, cut l (dec_le (length s) k), f)
+    where
+      cut : length (take k s) ≡ k → Dec (length s ≤ k) → placed t.bytes t.at s ≡ placed t.bytes t.at (take k s)
+      cut l (yes a) = rw (take_all k s a)
+      cut l (no a) =
+          ap (λ (u : List ℕ). placed t.bytes t.at u) (sym (take-append-drop k s))
+          ∙ placed-then t.bytes t.at (take k s) (drop k s)
+          ∙ placed-none (placed t.bytes t.at (take k s)) (t.at + length (take k s)) (drop k s) (rw placed-all (omega arith))
+
+  pub put_nil : put t [] ≡ t
+  unfolding put
+  put_nil = let e : max t.at (min (t.at + 0) (length t.bytes)) ≡ t.at = omega arith in rw e
+
+  -- one thing put after another is both put
+  pub put_then : (a b : List ℕ) → put (put t a) b ≡ put t (a ++ b)
+  unfolding put
+  put_then a b =
+      let e : max next (min (next + length b) (length (placed t.bytes t.at a))) ≡ max t.at (min (t.at + length (a ++ b)) (length t.bytes)) =
+      rw (length-append, placed-all) (omega arith) in
+      rw (e, placed-then t.bytes t.at a b, from_next (dec_le (t.at + length a) (length t.bytes)))
+    where
+      next : ℕ
+      next = max t.at (min (t.at + length a) (length t.bytes))
+
+      -- past the end one place is as another
+      from_next : Dec (t.at + length a ≤ length t.bytes) → placed (placed t.bytes t.at a) next b ≡ placed (placed t.bytes t.at a) (t.at + length a) b
+      from_next (yes h) = ap (λ (k : ℕ). placed (placed t.bytes t.at a) k b) (omega arith)
+      from_next (no h) =
+          placed-none (placed t.bytes t.at a) next b (rw placed-all (omega arith)) ∙ sym (placed-none (placed t.bytes t.at a) (t.at + length a) b (rw placed-all (omega arith)))
+
+-- what joins puts, one after the other, to one
+pub ruleset puts_joined = (put_nil, put_then, append_assoc)
+
+-- ---- digits
 
 pub digits-none : (base k n : ℕ) → k ≡ 0 → digits_text base k n ≡ []
 unfolding digits_text

@@ -1,5 +1,5 @@
 -- What is put is read back: digits are read as their number, and words parted by spaces as these words. Assumes nothing.
-use Prim.Native.Nat.{ℕ, zero, suc, ◌+◌, ◌*◌, ◌/◌, ◌%◌, ◌^◌, ◌≤◌, ◌<◌}
+use Prim.Native.Nat.{ℕ, zero, suc, ◌+◌, ◌-◌, ◌*◌, ◌/◌, ◌%◌, ◌^◌, ◌≤◌, ◌<◌}
 use mathlib.Core.Path.{◌≡◌, refl, ◌∙◌}
 use mathlib.Core.Bool.{Bool, true, false, cond}
 use mathlib.Core.List.{List, [], ◌∷◌, ◌++◌, append-nil, append_assoc}
@@ -10,25 +10,27 @@ use lib.ListN.{length, length-append}
 use lib.Seq.{take-length, take_at, drop-append-add}
 use borrow.Author.Tests.{ltb-true, ltb-false, lt-ltb, le-ltb, ne_eqb}
 use Rattle.text.specs.Search.{index_of, index_after}
-use Rattle.text.specs.declared.numbers.Num.TheVariants.{Value}
+use Rattle.std.specs.Prelude.{Some}
 use Rattle.text.specs.Numbers.{digit_of, read_from, digits_in}
 use Rattle.text.specs.Put.{glyph_of, digits_text, decimal_in}
 use Rattle.text.specs.Words.{word_count, word_at}
-use Rattle.text.proofs.Reading.{some}
+use Rattle.text.proofs.Reading.{some, words-cons}
 
 -- ---- digits
 
-pub digit_glyph : (d : ℕ) → d < 16 → digit_of (glyph_of d) ≡ d
+pub digit_glyph : (d : ℕ) → d < 16 → digit_of (glyph_of d) ≡ Some d
 unfolding digit_of glyph_of
 digit_glyph d h = go (ltb d 10) refl
   where
-    go : (c : Bool) → ltb d 10 ≡ c → digit_of (cond c (48 + d) (55 + d)) ≡ d
+    go : (c : Bool) → ltb d 10 ≡ c → digit_of (cond c (48 + d) (55 + d)) ≡ Some d
     go true e =
         let l : d < 10 = ltb-true d 10 e in
-        rw (le-ltb (48 + d) 48 (omega arith), lt-ltb (48 + d) 58 (omega arith)) (omega arith)
+        let v : 48 + d - 48 ≡ d = omega arith in
+        rw (le-ltb (48 + d) 48 (omega arith), lt-ltb (48 + d) 58 (omega arith), v)
     go false e =
         let l : 10 ≤ d = ltb-false d 10 e in
-        rw (le-ltb (55 + d) 48 (omega arith), le-ltb (55 + d) 58 (omega arith), le-ltb (55 + d) 65 (omega arith), lt-ltb (55 + d) 71 (omega arith)) (omega arith)
+        let v : 55 + d - 55 ≡ d = omega arith in
+        rw (le-ltb (55 + d) 48 (omega arith), le-ltb (55 + d) 58 (omega arith), le-ltb (55 + d) 65 (omega arith), lt-ltb (55 + d) 71 (omega arith), v)
 
 pub glyph-range : (d : ℕ) → d < 16 → (48 ≤ glyph_of d) × (glyph_of d ≤ 70)
 unfolding glyph_of
@@ -74,7 +76,7 @@ unfolding digits_text
 digits-length base zero n = refl
 digits-length base (suc k) n = rw length-append (omega (arith, digits-length base k (n / base)))
 
-pub digits-back : (base k n : ℕ) → 0 < base → base ≤ 16 → 0 < k → n < base ^ k → n < 18446744073709551616 → digits_in base (digits_text base k n) ≡ Value n
+pub digits-back : (base k n : ℕ) → 0 < base → base ≤ 16 → 0 < k → n < base ^ k → n < 18446744073709551616 → digits_in base (digits_text base k n) ≡ Some n
 unfolding read_from
 digits-back base k n p f z h w =
     some base (digits_text base k n) (rw digits-length z) ∙ (rw append-nil at (read-digits base p f k n [] h w))
@@ -87,7 +89,7 @@ decimal-some k n = go (ltb n 10)
     go true = omega arith
     go false = rw length-append (omega arith)
 
-pub decimal-back : (k n : ℕ) → n < 10 ^ suc k → n < 18446744073709551616 → digits_in 10 (decimal_in (suc k) n) ≡ Value n
+pub decimal-back : (k n : ℕ) → n < 10 ^ suc k → n < 18446744073709551616 → digits_in 10 (decimal_in (suc k) n) ≡ Some n
 unfolding read_from
 decimal-back k n h w = some 10 (decimal_in (suc k) n) (decimal-some k n) ∙ (rw append-nil at (read-decimal (suc k) n [] h w))
 
@@ -143,12 +145,12 @@ module _ (s : List ℕ) (free : index_of 32 s ≡ length s) where
   word-only = rw (free, take-length)
 
   pub words-past : (t : List ℕ) → word_count (s ++ t) ≡ word_count t
-  unfolding word_count index_of index_after
+  unfolding index_of index_after
   words-past t = go s free
     where
       go : (s : List ℕ) → index_of 32 s ≡ length s → word_count (s ++ t) ≡ word_count t
       go [] e = refl
-      go (x ∷ s) e = by (eqb x 32) (go s) e
+      go (x ∷ s) e = words-cons x (s ++ t) ∙ by (eqb x 32) (go s) e
         where
           by : (c : Bool) → (index_of 32 s ≡ length s → word_count (s ++ t) ≡ word_count t)
               → index_after c (index_of 32 s) ≡ suc (length s) → cond c (word_count (s ++ t) + 1) (word_count (s ++ t)) ≡ word_count t

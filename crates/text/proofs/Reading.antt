@@ -1,86 +1,95 @@
 -- What one more digit, and one more byte of a line, do to what is read. Assumes nothing.
-use Prim.Native.Nat.{ℕ, zero, suc, ◌+◌, ◌*◌, ◌-◌, ◌/◌, ◌≤◌, ◌<◌}
-use mathlib.Core.Path.{◌≡◌, refl, ap, sym, ◌∙◌}
-use mathlib.Core.Bool.{Bool, true, false, ◌&&◌}
+use Prim.Native.Nat.{ℕ, zero, suc, ◌+◌, ◌-◌, ◌≤◌, ◌<◌}
+use mathlib.Core.Path.{◌≡◌, refl, ap, sym}
+use mathlib.Core.Bool.{Bool, true, false, cond, ◌&&◌}
 use mathlib.Core.List.{List, [], ◌∷◌}
 use native.Mathlib.Omega.{arith}
 use native.Mathlib.Numerals.{add-one}
-use native.Mathlib.Nat.{le-div_iff_mul-le, div-lt_iff_lt-mul}
 use lib.ListN.{length, take, drop, get_or, length-drop}
-use lib.Seq.{drop-cons, drop-length, drop-nil, take-length, take_all, slice-cons, slice_empty}
-use Rattle.text.specs.Search.{index_of, index_after, slice}
-use lib.Dec.{eqb}
-use borrow.Author.Tests.{lt-ltb, le-ltb, eq-eqb, ne_eqb}
-use Rattle.text.specs.declared.numbers.Num.TheVariants.{Value, Bad}
-use Rattle.text.specs.Numbers.{digit_of, read_from, digits_in}
-use Rattle.text.specs.Words.{word_count, part_at, word_at, past_word, same_bytes, which_of}
-
--- the test before a multiplication is right: it refuses what reaches 2^64, and nothing else
-pub over : (base d n : ℕ) → 0 < base → d < base → base ≤ 16 → (18446744073709551615 - d) / base < n → 18446744073709551616 ≤ n * base + d
-over base d n b l s h = let p : 18446744073709551615 - d < n * base = (div-lt_iff_lt-mul b).0 h in omega arith
-
-pub within : (base d n : ℕ) → 0 < base → d < base → base ≤ 16 → n ≤ (18446744073709551615 - d) / base → n * base + d < 18446744073709551616
-within base d n b l s h = let p : n * base ≤ 18446744073709551615 - d = (le-div_iff_mul-le b).0 h in omega arith
+use lib.Seq.{drop-cons, drop-length, drop-nil, take_all}
+use lib.Dec.{eqb, ltb}
+use borrow.Author.Tests.{ltb-true, ltb-false, lt-ltb, le-ltb}
+use Rattle.std.specs.Prelude.{Option, option_map, unwrap_or, option_and_then, Some, None, bytes_eq, count_by}
+use Rattle.std.specs.Option.{MatchOption}
+use Rattle.std.specs.List.{position_or_len, slice_split, slice_get, onto_first}
+use Rattle.std.proofs.lemmas.List.Sums.{sum_by-cons}
+use Rattle.std.proofs.lemmas.List.Recursion.{is_position_or_len}
+use Rattle.text.specs.Search.{index_of, index_after, position_of}
+use Rattle.text.specs.Numbers.{digit_of, one_more, read_from, digits_in}
+use Rattle.text.specs.Words.{word_count, part_at, word_at, past_word, same_bytes, which_of, which_in, below}
 
 pub some : (base : ℕ) (s : List ℕ) → 0 < length s → digits_in base s ≡ read_from base 0 s
 unfolding digits_in
 some base [] h = absurd (omega arith)
 some base (b ∷ s) h = refl
 
-pub none : (base : ℕ) (s : List ℕ) → length s ≡ 0 → digits_in base s ≡ Bad
+pub none : (base : ℕ) (s : List ℕ) → length s ≡ 0 → digits_in base s ≡ None
 unfolding digits_in
 none base [] h = refl
 none base (b ∷ s) h = absurd (omega arith)
 
-pub read_done : (base n : ℕ) (s : List ℕ) → read_from base n (drop (length s) s) ≡ Value n
+pub read_done : (base n : ℕ) (s : List ℕ) → read_from base n (drop (length s) s) ≡ Some n
 unfolding read_from
 read_done base n s = rw drop-length
 
-module _ (base n : ℕ) (s : List ℕ) (i : ℕ) (h : i < length s) where
-  pub read-stop : base ≤ digit_of (get_or s i 0) → read_from base n (drop i s) ≡ Bad
-  unfolding read_from
-  read-stop l = rw (drop-cons s i 0 h, le-ltb _ _ l)
+pub read-on : (base n : ℕ) (s : List ℕ) (i : ℕ) → i < length s
+    → read_from base n (drop i s) ≡ option_and_then (λ d. option_and_then (λ m. read_from base m (drop (i + 1) s)) (one_more base n d)) (digit_of (get_or s i 0))
+unfolding read_from
+read-on base n s i h = rw (drop-cons s i 0 h, add-one)
 
-  pub read-over : digit_of (get_or s i 0) < base → 18446744073709551616 ≤ n * base + digit_of (get_or s i 0) → read_from base n (drop i s) ≡ Bad
-  unfolding read_from
-  read-over l o = rw (drop-cons s i 0 h, lt-ltb _ _ l, le-ltb _ _ o)
-
-  pub read-on : digit_of (get_or s i 0) < base → n * base + digit_of (get_or s i 0) < 18446744073709551616 → read_from base n (drop i s) ≡ read_from base (n * base + digit_of (get_or s i 0)) (drop (i + 1) s)
-  unfolding read_from
-  read-on l o = rw (drop-cons s i 0 h, lt-ltb _ _ l, lt-ltb _ _ o, add-one)
-
-module _ (s : List ℕ) (i : ℕ) (h : i < length s) where
-  pub words-space : get_or s i 0 ≡ 32 → word_count (drop i s) ≡ word_count (drop (i + 1) s) + 1
-  unfolding word_count
-  words-space e = rw (drop-cons s i 0 h, eq-eqb _ _ e, add-one i)
-
-  pub words-other : (get_or s i 0 ≡ 32 → ⊥) → word_count (drop i s) ≡ word_count (drop (i + 1) s)
-  unfolding word_count
-  words-other e = rw (drop-cons s i 0 h, ne_eqb _ _ e, add-one i)
-
-pub words-done : (s : List ℕ) → word_count (drop (length s) s) ≡ 1
+-- one byte more in front
+pub words-cons : (x : ℕ) (s : List ℕ) → word_count (x ∷ s) ≡ cond (eqb x 32) (word_count s + 1) (word_count s)
 unfolding word_count
-words-done s = rw drop-length
+words-cons x s = rw (sum_by-cons (λ (b : ℕ). cond (eqb b 32) 1 0) x s) (by (eqb x 32))
+  where
+    by : (c : Bool) → cond c 1 0 + count_by (λ b. eqb b 32) s + 1 ≡ cond c (count_by (λ b. eqb b 32) s + 1 + 1) (count_by (λ b. eqb b 32) s + 1)
+    by true = omega arith
+    by false = omega arith
 
--- ---- a search from one place up to another
+-- ---- a search
 
-module _ (b : ℕ) (s : List ℕ) (i to : ℕ) (h : i < to) (k : to ≤ length s) where
-  pub found : get_or s i 0 ≡ b → index_of b (slice i to s) ≡ 0
-  unfolding index_of index_after slice
-  found e = rw (slice-cons i to s 0 h k, eq-eqb _ _ e)
+-- the first place of a byte, by the library's words
+pub index-position : (b : ℕ) (s : List ℕ) → index_of b s ≡ position_or_len (λ x. eqb x b) s
+unfolding index_of index_after
+index-position b s = is_position_or_len (index_of b) (λ x. eqb x b) refl (λ x xs. here (eqb x b) (index_of b xs)) s
+  where
+    here : (c : Bool) (n : ℕ) → index_after c n ≡ cond c 0 (1 + n)
+    here true n = refl
+    here false n = omega arith
 
-  pub further : (get_or s i 0 ≡ b → ⊥) → index_of b (slice i to s) ≡ index_of b (slice (i + 1) to s) + 1
-  unfolding index_of index_after slice
-  further e = rw (slice-cons i to s 0 h k, ne_eqb _ _ e, add-one i) (omega arith)
+pub place-is : (b : ℕ) (s : List ℕ) → position_of b s ≡ below (length s) (index_of b s)
+place-is b s = rw (index-position b s)
 
-pub searched : (b : ℕ) (s : List ℕ) (to : ℕ) → index_of b (slice to to s) ≡ 0
-unfolding index_of slice
-searched b s to = rw slice_empty
+-- no place is further than the end
+pub index-le : (b : ℕ) (s : List ℕ) → index_of b s ≤ length s
+unfolding index_of index_after
+index-le b [] = omega arith
+index-le b (x ∷ s) = by (eqb x b) (index-le b s)
+  where
+    by : (c : Bool) → index_of b s ≤ length s → index_after c (index_of b s) ≤ suc (length s)
+    by true l = omega arith
+    by false l = omega arith
 
--- a search of the whole of s
-pub whole : (b : ℕ) (s : List ℕ) → 0 + index_of b (slice 0 (length s) s) ≡ index_of b s
-unfolding slice
-whole b s = rw take-length (omega arith)
+-- a place that is found, and one that isn't
+pub below-found : (n k e : ℕ) → below n k ≡ Some e → (e ≡ k) × (k < n)
+below-found n k e h = go (ltb k n) refl h
+  where
+    go : (c : Bool) → ltb k n ≡ c → cond c (Some k) None ≡ Some e → (e ≡ k) × (k < n)
+    go true l h = (cc, ltb-true k n l)
+    go false l h = absurd (cc)
+
+pub below-none : (n k : ℕ) → below n k ≡ None → n ≤ k
+below-none n k h = go (ltb k n) refl h
+  where
+    go : (c : Bool) → ltb k n ≡ c → cond c (Some k) None ≡ None → n ≤ k
+    go true l h = absurd (cc)
+    go false l h = ltb-false k n l
+
+pub place-found : (b : ℕ) (s : List ℕ) (e : ℕ) → position_of b s ≡ Some e → (e ≡ index_of b s) × (e < length s)
+place-found b s e h = let x = below-found _ _ e (rw place-is at h) in (x.0, omega arith)
+
+pub place-none : (b : ℕ) (s : List ℕ) → position_of b s ≡ None → index_of b s ≡ length s
+place-none b s h = let x = below-none _ _ (rw place-is at h) in omega (arith, index-le b s)
 
 pub drop_past : (n : ℕ) (s : List ℕ) → length s ≤ n → drop n s ≡ []
 drop_past n [] h = drop-nil n
@@ -92,23 +101,39 @@ unfolding part_at index_of
 nothing b zero = refl
 nothing b (suc k) = nothing b k
 
-module _ (b : ℕ) (s : List ℕ) (k e : ℕ) (f : e ≡ 0 + index_of b (slice 0 (length s) s)) where
-  pub part-first : k ≡ 0 → take e s ≡ part_at b s k
-  unfolding part_at
-  part-first z = rw (z, f, whole b s)
+-- a byte in front of the first part
+onto-zero : (x : ℕ) (ps : List (List ℕ)) → unwrap_or (slice_get (onto_first x ps) 0) [] ≡ x ∷ unwrap_or (slice_get ps 0) []
+onto-zero x [] = refl
+onto-zero x (p ∷ ps) = refl
 
-  pub part-next : (k ≡ 0 → ⊥) → part_at b (drop (e + 1) s) (k - 1) ≡ part_at b s k
-  unfolding part_at
-  part-next z = go k z
-    where
-      go : (k : ℕ) → (k ≡ 0 → ⊥) → part_at b (drop (e + 1) s) (k - 1) ≡ part_at b s k
-      go zero z = absurd (z refl)
-      go (suc k) z = let p : suc k - 1 ≡ k = omega arith in rw (p, f, whole b s)
+onto-suc : (x : ℕ) (ps : List (List ℕ)) (k : ℕ) → slice_get (onto_first x ps) (suc k) ≡ slice_get ps (suc k)
+onto-suc x [] k = refl
+onto-suc x (p ∷ ps) k = refl
 
-  pub part-past : (k ≡ 0 → ⊥) → length s ≤ e → drop e s ≡ part_at b s k
-  part-past z h =
-      let d : drop (e + 1) s ≡ [] = drop_past (e + 1) s (omega arith) in
-      drop_past e s h ∙ sym (nothing b (k - 1)) ∙ (rw d at (part-next z))
+-- the parts of s are those that the library splits it into
+pub part-split : (b : ℕ) (s : List ℕ) (k : ℕ) → unwrap_or (slice_get (slice_split (λ x. eqb x b) s) k) [] ≡ part_at b s k
+unfolding part_at index_of index_after
+part-split b [] zero = refl
+part-split b [] (suc k) = sym (nothing b k)
+part-split b (x ∷ s) zero = by (eqb x b) (part-split b s 0)
+  where
+    by : (c : Bool) → unwrap_or (slice_get (slice_split (λ x. eqb x b) s) 0) [] ≡ part_at b s 0
+        → unwrap_or (slice_get (cond c ([] ∷ slice_split (λ x. eqb x b) s) (onto_first x (slice_split (λ x. eqb x b) s))) 0) [] ≡ take (index_after c (index_of b s)) (x ∷ s)
+    by true e = refl
+    by false e = rw onto-zero (ap (λ (l : List ℕ). x ∷ l) e)
+part-split b (x ∷ s) (suc k) = by (eqb x b) (part-split b s k) (part-split b s (suc k))
+  where
+    by : (c : Bool) → unwrap_or (slice_get (slice_split (λ x. eqb x b) s) k) [] ≡ part_at b s k
+        → unwrap_or (slice_get (slice_split (λ x. eqb x b) s) (suc k)) [] ≡ part_at b s (suc k)
+        → unwrap_or (slice_get (cond c ([] ∷ slice_split (λ x. eqb x b) s) (onto_first x (slice_split (λ x. eqb x b) s))) (suc k)) []
+        ≡ part_at b (drop (index_after c (index_of b s) + 1) (x ∷ s)) k
+    by true e f = e
+    by false e f = let n : suc (index_of b s) + 1 ≡ suc (index_of b s + 1) = omega arith in rw (onto-suc, n) f
+
+-- what a reference says where there is one
+pub unwrap-map : {A B : Type 0} (f : A → B) (o : Option A) (d : A) → f (unwrap_or o d) ≡ unwrap_or (option_map f o) (f d)
+unwrap-map f (Some x) d = refl
+unwrap-map f None d = refl
 
 -- words are parts, by spaces
 pub part-word : (s : List ℕ) (k : ℕ) → part_at 32 s k ≡ word_at s k
@@ -122,45 +147,43 @@ to_end n s = take_all (length s - n) (drop n s) (rw length-drop (omega arith))
 
 -- ---- the same bytes
 
--- lists of different lengths differ
-pub unlike-lengths : (a b : List ℕ) → (length a ≡ length b → ⊥) → same_bytes a b ≡ false
+-- == on slices says that they are the same bytes
+pub same-eq : (a b : List ℕ) → same_bytes a b ≡ bytes_eq a b
 unfolding same_bytes
-unlike-lengths [] [] h = absurd (h refl)
-unlike-lengths [] (y ∷ b) h = refl
-unlike-lengths (x ∷ a) [] h = refl
-unlike-lengths (x ∷ a) (y ∷ b) h = last (eqb x y) (unlike-lengths a b (λ e. h (ap suc e)))
-  where
-    last : (t : Bool) → same_bytes a b ≡ false → t && same_bytes a b ≡ false
-    last true e = e
-    last false e = refl
-
--- what is compared from place i on, by the pair there
-pub from_place : (a b : List ℕ) (i : ℕ) → i < length a → i < length b
-    → same_bytes (drop i a) (drop i b) ≡ eqb (get_or a i 0) (get_or b i 0) && same_bytes (drop (suc i) a) (drop (suc i) b)
-unfolding same_bytes
-from_place a b i h k = rw (drop-cons a i 0 h, drop-cons b i 0 k)
-
--- nothing is left past the end
-pub at-end : (a b : List ℕ) → length a ≡ length b → same_bytes (drop (length a) a) (drop (length a) b) ≡ true
-unfolding same_bytes
-at-end a b e = rw (drop-length a, e, drop-length b)
+same-eq [] [] = refl
+same-eq [] (y ∷ b) = refl
+same-eq (x ∷ a) [] = refl
+same-eq (x ∷ a) (y ∷ b) = ap (λ (c : Bool). eqb x y && c) (same-eq a b)
 
 -- ---- one of the names
 
-pub which-none : (names : List ℕ) (n : ℕ) (w : List ℕ) → n ≡ 0 → 0 ≡ which_of names n w
-unfolding which_of
-which-none names n w e = rw e
+pub which-is : (names : List ℕ) (n : ℕ) (w : List ℕ) (i : ℕ) → i < n → same_bytes w (word_at names i) ≡ true
+    → ((k : ℕ) → k < i → same_bytes w (word_at names k) ≡ false) → which_of names n w ≡ i
+unfolding which_of word_at
+which-is names zero w i l y h = absurd (omega arith)
+which-is names (suc n) w zero l y h = rw y
+which-is names (suc n) w (suc i) l y h =
+    let e : 1 + which_of (past_word names) n w ≡ suc i = omega (arith, which-is (past_word names) n w i (omega arith) y (λ k m. h (suc k) (omega arith))) in
+    rw (h 0 (omega arith)) e
 
-pub which-here : (names : List ℕ) (n : ℕ) (w : List ℕ) → (n ≡ 0 → ⊥) → same_bytes w (word_at names 0) ≡ true → 0 ≡ which_of names n w
-unfolding which_of
-which-here names zero w z e = absurd (z refl)
-which-here names (suc n) w z e = rw e
+pub which-none : (names : List ℕ) (n : ℕ) (w : List ℕ) → ((k : ℕ) → k < n → same_bytes w (word_at names k) ≡ false) → which_of names n w ≡ n
+unfolding which_of word_at
+which-none names zero w h = refl
+which-none names (suc n) w h =
+    let e : 1 + which_of (past_word names) n w ≡ suc n = omega (arith, which-none (past_word names) n w (λ k m. h (suc k) (omega arith))) in
+    rw (h 0 (omega arith)) e
 
-pub which-later : (names : List ℕ) (n : ℕ) (w : List ℕ) → (n ≡ 0 → ⊥) → same_bytes w (word_at names 0) ≡ false → 1 + which_of (past_word names) (n - 1) w ≡ which_of names n w
-unfolding which_of
-which-later names zero w z e = absurd (z refl)
-which-later names (suc n) w z e = let p : suc n - 1 ≡ n = omega arith in rw (p, e)
+-- the first place below n at which the word is w
+pub which-first : (names : List ℕ) (n : ℕ) (w : List ℕ) (r : Option ℕ)
+    → MatchOption r ((k : ℕ) → 0 ≤ k → k < n → same_bytes w (word_at names k) ≡ false) (λ i. (0 ≤ i) × (i < n) × (same_bytes w (word_at names i) ≡ true)
+    × ((k : ℕ) → 0 ≤ k → k < i → same_bytes w (word_at names k) ≡ false))
+    → r ≡ which_in names n w
+which-first names n w None h = rw (which-none names n w (λ k l. h k (omega arith) l), le-ltb n n (omega arith))
+which-first names n w (Some i) h = rw (which-is names n w i h.1 h.2 (λ k l. h.3 k (omega arith) l), lt-ltb i n h.1)
 
--- what follows the first space
-pub past_first : (s : List ℕ) (e : ℕ) → e ≡ 0 + index_of 32 (slice 0 (length s) s) → drop (e + 1) s ≡ past_word s
-past_first s e f = rw (f, whole 32 s)
+-- what follows the first space, and what doesn't
+pub past-found : (s : List ℕ) (e : ℕ) → position_of 32 s ≡ Some e → drop (e + 1) s ≡ past_word s
+past-found s e f = rw (place-found 32 s e f).0
+
+pub past-none : (s : List ℕ) → position_of 32 s ≡ None → [] ≡ past_word s
+past-none s f = sym (drop_past (index_of 32 s + 1) s (let l = place-none 32 s f in omega arith))

@@ -4,10 +4,11 @@ use mathlib.Core.Path.{◌≡◌}
 use mathlib.Core.Bool.{Bool, true, false, cond}
 use mathlib.Core.List.{List, [], ◌∷◌, ◌++◌}
 use native.Mathlib.Omega.{arith}
-use lib.Dec.{eqb, ltb}
+use lib.Dec.{ltb}
+use Rattle.std.specs.Prelude.{Option, Some, None, unwrap_or}
 use lib.ListN.{length, get_or, length-append, length-take, length-drop}
 use Rattle.text.specs.Put.{digits_text, decimal_in}
-use Rattle.text.specs.Fields.{places_of, field_text, fields_upto, fields_text}
+use Rattle.text.specs.Fields.{places_of, shown_in, field_text, fields_upto, fields_text}
 use Rattle.text.specs.Words.{word_at, past_word}
 
 infixl 65 ◌&◌
@@ -43,14 +44,14 @@ decimal-short (suc k) n = either (ltb n 10) (wider (words (_ ∷ [])) (omega ari
 
 -- the most bytes that a number of this letter takes, after its space
 abbrev pub width_of : ℕ → ℕ
-width_of letter = cond (eqb (places_of letter) 0) 20 (places_of letter)
+width_of letter = unwrap_or (places_of letter) 20
 
-shown-short : (c : Bool) {a b : List ℕ} {m n : ℕ} → Short a m → Short b n → Short (cond c a b) (cond c m n)
-shown-short true x y = x
-shown-short false x y = y
+shown-short : (places : Option ℕ) (n : ℕ) → Short (shown_in places n) (unwrap_or places 20)
+shown-short (Some k) n = digits-short 16 k n
+shown-short None n = decimal-short 20 n
 
 field-short : (n letter : ℕ) → Short (field_text n letter) (1 + width_of letter)
-field-short n letter = words (0x20 ∷ []) & shown-short (eqb (places_of letter) 0) (decimal-short 20 n) (digits-short 16 (places_of letter) n)
+field-short n letter = words (0x20 ∷ []) & shown-short (places_of letter) n
 
 abbrev pub widths_upto : List ℕ → ℕ → ℕ
 widths_upto shape zero = 0

@@ -1,13 +1,14 @@
 -- Numbers as the letters of a shape say. Definitions only.
-use Rattle.std.specs.Prelude.{ℕ, zero, suc, cond, List, [], ◌∷◌, ◌++◌, eqb, ltb, length, get_or}
+use Rattle.std.specs.Prelude.{ℕ, zero, suc, cond, Option, Some, None, List, [], ◌∷◌, ◌++◌, eqb, ltb, length, get_or}
 use Rattle.text.specs.Put.{digits_text, decimal_text}
 
--- how many hexadecimal digits a letter asks for: 1, 2, 4, 8, and 16 for P; 0, for a decimal number, for any other
-abbrev pub places_of : ℕ → ℕ
-places_of letter = cond (eqb letter 0x31) 1 (cond (eqb letter 0x32) 2 (cond (eqb letter 0x34) 4 (cond (eqb letter 0x38) 8 (cond (eqb letter 0x50) 16 0))))
+-- how many hexadecimal digits a letter asks for: 1, 2, 4, 8, and 16 for P; none, for a decimal number, for any other
+abbrev pub places_of : ℕ → Option ℕ
+places_of letter = cond (eqb letter 0x31) (Some 1) (cond (eqb letter 0x32) (Some 2) (cond (eqb letter 0x34) (Some 4) (cond (eqb letter 0x38) (Some 8) (cond (eqb letter 0x50) (Some 16) None))))
 
-abbrev pub shown_in : ℕ → ℕ → List ℕ
-shown_in places n = cond (eqb places 0) (decimal_text n) (digits_text 16 places n)
+abbrev pub shown_in : Option ℕ → ℕ → List ℕ
+shown_in (Some k) n = digits_text 16 k n
+shown_in None n = decimal_text n
 
 -- a space, and a number as its letter says
 abbrev pub field_text : ℕ → ℕ → List ℕ

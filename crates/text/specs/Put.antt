@@ -1,5 +1,6 @@
 -- What is put into a buffer. Definitions only.
-use Rattle.std.specs.Prelude.{ℕ, zero, suc, ◌+◌, ◌/◌, ◌%◌, min, max, ◌≡◌, cond, List, [], ◌∷◌, ◌++◌, length, set, ltb}
+use Rattle.std.specs.Prelude.{ℕ, zero, suc, ◌+◌, ◌/◌, ◌%◌, min, max, ◌≡◌, cond, List, [], ◌∷◌, ◌++◌, length, set, take, replicate, ltb}
+use Rattle.text.specs.declared.put.Text.{Text}
 
 -- the bytes put one after the other from a place on: one past the end goes nowhere, and all else is as it was
 abbrev pub placed : List ℕ → ℕ → List ℕ → List ℕ
@@ -11,6 +12,18 @@ pub record Put (before : List ℕ) (at : ℕ) (bs : List ℕ) (after : List ℕ)
   pub same : length after ≡ length before
   pub whole : after ≡ placed before at bs
   pub next : r ≡ max at (min (at + length bs) (length before))
+
+-- a text once the bytes bs are put after it, as many as there is room for: the whole buffer, and the next place
+unfoldable pub put : {N : ℕ} → Text N → List ℕ → Text N
+put t bs = record { bytes = placed t.bytes t.at bs; at = max t.at (min (t.at + length bs) (length t.bytes)) }
+
+-- a buffer of n zeros, with no text
+abbrev pub no_text : (n : ℕ) → Text n
+no_text n = record { bytes = replicate n 0; at = 0 }
+
+-- the text of a buffer: what stands before the next place
+abbrev pub text_as_bytes : {N : ℕ} → Text N → List ℕ
+text_as_bytes t = take t.at t.bytes
 
 -- a digit below 16: 0 to 9, then A to F
 unfoldable pub glyph_of : ℕ → ℕ

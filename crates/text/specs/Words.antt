@@ -1,11 +1,10 @@
 -- Words parted by single spaces. Definitions only.
-use Rattle.std.specs.Prelude.{ℕ, zero, suc, ◌+◌, Bool, true, false, cond, ◌&&◌, List, [], ◌∷◌, take, drop, eqb}
+use Rattle.std.specs.Prelude.{ℕ, zero, suc, ◌+◌, ◌==◌, Bool, true, false, cond, ◌&&◌, Option, Some, None, List, [], ◌∷◌, take, drop, count_by, eqb, ltb}
 use Rattle.text.specs.Search.{index_of}
 
 -- how many words s has: one more than its spaces
 unfoldable pub word_count : List ℕ → ℕ
-word_count [] = 1
-word_count (b ∷ s) = cond (eqb b 32) (word_count s + 1) (word_count s)
+word_count s = count_by (λ b. b == 32) s + 1
 
 -- what stands before the first b of s once k of them are passed; nothing where s has not so many
 unfoldable pub part_at : ℕ → List ℕ → ℕ → List ℕ
@@ -31,3 +30,11 @@ same_bytes (a ∷ s) (b ∷ t) = eqb a b && same_bytes s t
 unfoldable pub which_of : List ℕ → ℕ → List ℕ → ℕ
 which_of names zero w = 0
 which_of names (suc n) w = cond (same_bytes w (word_at names 0)) 0 (1 + which_of (past_word names) n w)
+
+-- k where it is below n
+abbrev pub below : ℕ → ℕ → Option ℕ
+below n k = cond (ltb k n) (Some k) None
+
+-- which of the first n words of names is w, the first that it is, if there is one
+abbrev pub which_in : List ℕ → ℕ → List ℕ → Option ℕ
+which_in names n w = below n (which_of names n w)

@@ -1,50 +1,47 @@
 // Numbers put one after the other, each after a space, as a shape says: a letter for each number. 1, 2, 4 and 8 are so many
 // hexadecimal digits, P is 16; any other letter is decimal.
 ghost use Rattle.std.specs.Prelude.{◌≡◌};
-ghost use Rattle.text.specs.Put.{Put};
+ghost use Rattle.text.specs.Put.{put};
 ghost use Rattle.text.specs.Fields.{places_of, field_text, fields_text};
 
-use crate::put::{put_byte, put_decimal, put_hex};
+use crate::put::Text;
 
-// A number for each letter of the shape. No shape has more than eight letters.
-pub fn put_fields(v: [u64; 8], shape: &[u8], out: &mut [u8], at: usize) -> usize
-    ensures { Put out.old at (fields_text v shape.now) out.new result }
-{
-    let n = shape.len();
-    if 8 < n {
-        return at;
+#[tactic(auto, using(crate::proofs::Putting::puts_joined))]
+impl<const N: usize> Text<N> {
+    // A number for each letter of the shape. No shape has more than eight letters.
+    pub fn put_fields(&mut self, v: [u64; 8], shape: &[u8])
+        ensures { self.new ≡ put self.old (fields_text v shape.now) }
+    {
+        if shape.len() > 8 {
+            return;
+        }
+        for (&n, &letter) in v.iter().zip(shape) {
+            self.put_field(n, letter);
+        }
     }
-    let mut p = at;
-    let mut i: usize = 0;
-    while i < n {
-        p = put_field(v[i], shape[i], out, p);
-        i += 1;
+
+    // A space, and a number as its letter says.
+    fn put_field(&mut self, n: u64, letter: u8)
+        ensures { self.new ≡ put self.old (field_text n letter) }
+    {
+        self.put_byte(b' ');
+        match places(letter) {
+            Some(k) => self.put_hex(n, k),
+            None => self.put_decimal(n),
+        }
     }
-    p
 }
 
-// A space, and a number as its letter says.
-fn put_field(n: u64, letter: u8, out: &mut [u8], at: usize) -> usize
-    ensures { Put out.old at (field_text n letter) out.new result }
-{
-    let p = put_byte(out, at, b' ');
-    let k = places(letter);
-    if k == 0 {
-        return put_decimal(out, p, n);
-    }
-    put_hex(out, p, n, k)
-}
-
-// How many hexadecimal digits a letter asks for; 0 for a decimal number.
-fn places(letter: u8) -> usize
+// How many hexadecimal digits a letter asks for; none for a decimal number.
+fn places(letter: u8) -> Option<usize>
     ensures { result ≡ places_of letter }
 {
     match letter {
-        b'1' => 1,
-        b'2' => 2,
-        b'4' => 4,
-        b'8' => 8,
-        b'P' => 16,
-        _ => 0,
+        b'1' => Some(1),
+        b'2' => Some(2),
+        b'4' => Some(4),
+        b'8' => Some(8),
+        b'P' => Some(16),
+        _ => None,
     }
 }

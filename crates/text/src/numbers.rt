@@ -1,98 +1,66 @@
 // The number that a word stands for. A word with no digit, with a byte that is no digit of its
 // base, or of 2^64 or more, is no number.
-ghost use Rattle.std.specs.Prelude.{◌≡◌, ◌≤◌, ◌<◌};
-ghost use Rattle.text.specs.Numbers.{digit_of, digits_in, number_in};
-
-#[derive(Clone, Copy)]
-pub enum Num {
-    Value(u64),
-    Bad,
-}
+ghost use Rattle.std.specs.Prelude.{◌≡◌};
+ghost use Rattle.text.specs.Numbers.{digit_of, one_more, digits_in, number_in};
 
 // A decimal number, or a hexadecimal one after 0x.
 #[tactic(auto, unfolding(crate::specs::Numbers::number_in))]
-pub fn number(w: &[u8]) -> Num
+pub fn number(w: &[u8]) -> Option<u64>
     ensures { result ≡ number_in w.now }
 {
-    if w.len() <= 2 {
-        return digits(w, 10);
+    match w {
+        [b'0', b'x', _, ..] => hex_word(&w[2..]),
+        _ => decimal_word(w),
     }
-    if w[0] != b'0' {
-        return digits(w, 10);
-    }
-    if w[1] != b'x' {
-        return digits(w, 10);
-    }
-    digits(&w[2..], 16)
 }
 
 // A hexadecimal number, with no 0x; digits of either case.
-pub fn hex_word(w: &[u8]) -> Num
+pub fn hex_word(w: &[u8]) -> Option<u64>
     ensures { result ≡ digits_in 16 w.now }
 {
-    digits(w, 16)
+    digits::<16>(w)
 }
 
 // A decimal number.
-pub fn decimal_word(w: &[u8]) -> Num
+pub fn decimal_word(w: &[u8]) -> Option<u64>
     ensures { result ≡ digits_in 10 w.now }
 {
-    digits(w, 10)
+    digits::<10>(w)
 }
 
-// The number that the digits of w are in base.
-fn digits(w: &[u8], base: u64) -> Num
-    requires { (0 < base) × (base ≤ 16) }
-    ensures { result ≡ digits_in base w.now }
+// The number that the digits of w are in a base.
+fn digits<const BASE: u64>(w: &[u8]) -> Option<u64>
+    ensures { result ≡ digits_in BASE w.now }
 {
-    if w.len() == 0 {
-        return Num::Bad;
+    if w.is_empty() {
+        return None;
     }
-    let mut n: u64 = 0;
-    let mut i = 0;
-    while i < w.len() {
-        let d = digit(w[i]);
-        if base <= d {
-            return Num::Bad;
-        }
-        if (0xFFFF_FFFF_FFFF_FFFF - d) / base < n {
-            return Num::Bad;
-        }
-        n = n * base + d;
-        i += 1;
+    let mut n = 0;
+    for &b in w {
+        n = one_more::<BASE>(n, digit(b)?)?;
     }
-    Num::Value(n)
+    Some(n)
 }
 
-// What a digit stands for: 0 to 9, A to F, a to f; 16 for any other byte.
+// n with the digit d after it, in a base of which d may be no digit.
+fn one_more<const BASE: u64>(n: u64, d: u64) -> Option<u64>
+    ensures { result ≡ one_more BASE n d }
+{
+    if d >= BASE {
+        return None;
+    }
+    n.checked_mul(BASE)?.checked_add(d)
+}
+
+// What a digit stands for: 0 to 9, A to F, a to f.
 #[tactic(auto, unfolding(crate::specs::Numbers::digit_of))]
-fn digit(b: u8) -> u64
+fn digit(b: u8) -> Option<u64>
     ensures { result ≡ digit_of b }
 {
-    let d = wide(b);
-    if d < 48 {
-        return 16;
+    match b {
+        b'0'..=b'9' => Some(u64::from(b - b'0')),
+        b'A'..=b'F' => Some(u64::from(b - b'A') + 10),
+        b'a'..=b'f' => Some(u64::from(b - b'a') + 10),
+        _ => None,
     }
-    if d < 58 {
-        return d - 48;
-    }
-    if d < 65 {
-        return 16;
-    }
-    if d < 71 {
-        return d - 55;
-    }
-    if d < 97 {
-        return 16;
-    }
-    if d < 103 {
-        return d - 87;
-    }
-    16
-}
-
-fn wide(b: u8) -> u64
-    ensures { result ≡ b }
-{
-    b as u64
 }

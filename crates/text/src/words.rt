@@ -1,23 +1,16 @@
 // The words of a line. Words are parted by single spaces, so a line has one word more than it has
 // spaces, and two spaces together part an empty word.
-ghost use Rattle.std.specs.Prelude.{◌≡◌, ◌+◌, ◌≤◌, drop};
-ghost use Rattle.text.specs.Words.{word_count, part_at, word_at, same_bytes, which_of};
+ghost use Rattle.std.specs.Prelude.{◌≡◌};
+ghost use Rattle.text.specs.Words.{word_count, part_at, word_at, past_word, which_in};
 
-use crate::search::find;
+use crate::search::position_of;
 
 // How many words s has.
+#[tactic(auto, unfolding(crate::specs::Words::word_count))]
 pub fn word_count(s: &[u8]) -> usize
     ensures { result ≡ word_count s.now }
 {
-    let mut n = 1;
-    let mut i = 0;
-    while i < s.len() {
-        if s[i] == b' ' {
-            n += 1;
-        }
-        i += 1;
-    }
-    n
+    s.iter().filter(|&&x| x == b' ').count() + 1
 }
 
 // Word k of s, counted from 0; empty where s has no such word.
@@ -31,53 +24,22 @@ pub fn word(s: &[u8], k: usize) -> &[u8]
 pub fn part(s: &[u8], b: u8, k: usize) -> &[u8]
     ensures { result.now ≡ part_at b s.now k }
 {
-    let end = find(s, 0, s.len(), b);
-    if k == 0 {
-        return &s[..end];
-    }
-    if end < s.len() {
-        return part(&s[end + 1..], b, k - 1);
-    }
-    &s[end..]
+    s.split(|x| *x == b).nth(k).unwrap_or(&[])
 }
 
-// What follows place k of s; nothing where s ends before.
-pub fn past(s: &[u8], k: usize) -> &[u8]
-    ensures { result.now ≡ drop (k + 1) s.now }
+// What follows the first space of s; nothing where there is none.
+pub fn past_word(s: &[u8]) -> &[u8]
+    ensures { result.now ≡ past_word s.now }
 {
-    if k < s.len() {
-        return &s[k + 1..];
+    match position_of(s, b' ') {
+        Some(end) => &s[end + 1..],
+        None => &[],
     }
-    &s[s.len()..]
 }
 
-// Whether two words are the same bytes.
-pub fn same_bytes(a: &[u8], b: &[u8]) -> bool
-    ensures { result ≡ same_bytes a.now b.now }
+// Which of the first n words of names w is, the first that it is, if there is one.
+pub fn which(names: &[u8], n: usize, w: &[u8]) -> Option<usize>
+    ensures { result ≡ which_in names.now n w.now }
 {
-    if a.len() != b.len() {
-        return false;
-    }
-    let mut i = 0;
-    while i < a.len() {
-        if a[i] != b[i] {
-            return false;
-        }
-        i += 1;
-    }
-    true
-}
-
-// Which of the first n words of names w is, the first that it is, and n for none.
-pub fn which(names: &[u8], n: usize, w: &[u8]) -> usize
-    ensures { (result ≡ which_of names.now n w.now) × (result ≤ n) }
-{
-    if n == 0 {
-        return 0;
-    }
-    let end = find(names, 0, names.len(), b' ');
-    if same_bytes(w, &names[..end]) {
-        return 0;
-    }
-    1 + which(past(names, end), n - 1, w)
+    (0..n).find(|k| w == word(names, *k))
 }

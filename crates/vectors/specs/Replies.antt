@@ -1,37 +1,32 @@
--- Which reply a request gets, by its number. Definitions only.
-use Rattle.std.specs.Prelude.{ℕ, cond, List, ◌==◌, nat_lt}
-use Rattle.vectors.specs.declared.fields.Reply.{Reply}
+-- Which reply a request gets. Definitions only.
+use Rattle.std.specs.Prelude.{ℕ, List}
+use Rattle.vectors.specs.declared.requests.Request.{Request}
+use Rattle.vectors.specs.declared.requests.Request.TheVariants as request
+use Rattle.vectors.specs.Numbers.{Reply}
 use Rattle.vectors.specs.Answers as answer
 
-unfoldable pub parameter_reply : ℕ → List ℕ → Reply
-parameter_reply k v =
-    cond (k == 0) (answer.build_ext_id v)
-    (cond (k == 1) (answer.ext_id_parts v)
-    (cond (k == 2) (answer.parameter_info v)
-    (cond (k == 3) (answer.from_raw v)
-    (cond (k == 4) (answer.validate_protocol_cmd v)
-    (cond (k == 5) (answer.encode_set_protocol v)
-    (cond (k == 6) (answer.encode_parameter_read v)
-    (cond (k == 7) (answer.encode_parameter_write v)
-    (cond (k == 8) (answer.encode_parameter_value v) (answer.decode_read_parameter_value v)))))))))
-
-unfoldable pub frame_reply : ℕ → List ℕ → Reply
-frame_reply k v =
-    cond (k == 10) (answer.decode_fault_report v)
-    (cond (k == 11) (answer.decode_ping_reply v)
-    (cond (k == 12) answer.encode_version_request (cond (k == 13) (answer.is_version_reply v) (answer.decode_version_reply v))))
-
-unfoldable pub value_reply : ℕ → List ℕ → List ℕ → Reply
-value_reply k v name =
-    cond (k == 15) (answer.motion_raw v)
-    (cond (k == 16) (answer.gain_raw v)
-    (cond (k == 17) (answer.status_value v)
-    (cond (k == 18) (answer.temperature v)
-    (cond (k == 19) (answer.model_limits name) (cond (k == 20) (answer.encode_mit_command v name) (answer.decode_status_frame v name))))))
-
-unfoldable pub name_reply : ℕ → List ℕ → Reply
-name_reply k v = cond (k == 22) (answer.parameter_name v) (answer.protocol_name v)
-
-abbrev pub reply_to : ℕ → List ℕ → List ℕ → Reply
-reply_to k v name =
-    cond (nat_lt k 10) (parameter_reply k v) (cond (nat_lt k 15) (frame_reply k v) (cond (nat_lt k 22) (value_reply k v name) (name_reply k v)))
+abbrev pub reply_to : Request → List ℕ → List ℕ → Reply
+reply_to request.BuildExtId v name = answer.build_ext_id v
+reply_to request.ExtIdParts v name = answer.ext_id_parts v
+reply_to request.ParameterInfo v name = answer.parameter_info v
+reply_to request.FromRaw v name = answer.from_raw v
+reply_to request.ValidateProtocolCmd v name = answer.validate_protocol_cmd v
+reply_to request.EncodeSetProtocol v name = answer.encode_set_protocol v
+reply_to request.EncodeParameterRead v name = answer.encode_parameter_read v
+reply_to request.EncodeParameterWrite v name = answer.encode_parameter_write v
+reply_to request.EncodeParameterValue v name = answer.encode_parameter_value v
+reply_to request.DecodeReadParameterValue v name = answer.decode_read_parameter_value v
+reply_to request.DecodeFaultReport v name = answer.decode_fault_report v
+reply_to request.DecodePingReply v name = answer.decode_ping_reply v
+reply_to request.EncodeVersionRequest v name = answer.encode_version_request
+reply_to request.IsVersionReply v name = answer.is_version_reply v
+reply_to request.DecodeVersionReply v name = answer.decode_version_reply v
+reply_to request.MotionRaw v name = answer.motion_raw v
+reply_to request.GainRaw v name = answer.gain_raw v
+reply_to request.StatusValue v name = answer.status_value v
+reply_to request.Temperature v name = answer.temperature v
+reply_to request.ModelLimits v name = answer.model_limits name
+reply_to request.EncodeMitCommand v name = answer.encode_mit_command v name
+reply_to request.DecodeStatusFrame v name = answer.decode_status_frame v name
+reply_to request.ParameterName v name = answer.parameter_name v
+reply_to request.ProtocolName v name = answer.protocol_name v

@@ -1,7 +1,7 @@
 -- Replies as text. Definitions only.
-use Rattle.std.specs.Prelude.{ℕ, zero, suc, cond, List, [], ◌∷◌, ◌++◌, length, ◌==◌, nat_lt, slice_index}
+use Rattle.std.specs.Prelude.{ℕ, zero, suc, cond, List, [], ◌∷◌, ◌++◌, length, ◌==◌, nat_lt, slice_index, Ok, Err}
 use Rattle.text.specs.Put.{digits_text, decimal_text}
-use Rattle.vectors.specs.declared.fields.Reply.{Reply}
+use Rattle.vectors.specs.Numbers.{Reply}
 use Rattle.vectors.specs.Requests.{width_of}
 
 -- for K "ok", else the last digits, as many as the letter says
@@ -26,4 +26,5 @@ abbrev pub refused_text : ℕ → List ℕ
 refused_text n = (0x72 ∷ 0x65 ∷ 0x66 ∷ 0x75 ∷ 0x73 ∷ 0x65 ∷ 0x64 ∷ 0x20 ∷ []) ++ decimal_text n
 
 abbrev pub reply_text : Reply → List ℕ → List ℕ
-reply_text reply shape = cond (reply.refusal == 0) (fields_text reply.v shape) (refused_text reply.refusal)
+reply_text (Ok v) shape = fields_text v shape
+reply_text (Err n) shape = refused_text n

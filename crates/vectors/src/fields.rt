@@ -1,109 +1,88 @@
-// A reply's numbers and their text, and the parts of a request's numbers.
-ghost use Rattle.std.specs.Prelude.{◌≡◌, ◌%◌, ◌^◌, ◌<◌};
-ghost use Rattle.text.specs.Put.{Put};
+// A reply: the refusal's number, or the answer's numbers and their text; and the parts of a request's numbers.
+#![tactic(auto, using(text::proofs::Putting::puts_joined))]
+
+ghost use Rattle.std.specs.Prelude.{◌≡◌, ◌%◌, ◌^◌};
+ghost use Rattle.text.specs.Put.{put};
 ghost use Rattle.vectors.specs.Text.{number_text, field_text, fields_text, refused_text, reply_text};
-ghost use Rattle.vectors.specs.Numbers.{replied, swapped, swapped4};
+ghost use Rattle.vectors.specs.Numbers.{numbers, unless_refused};
 
 use crate::requests::width;
+use text::Text;
 
-// The number of a refusal, 0 where there is none, and the numbers that an answer shows.
-#[derive(Clone, Copy)]
-pub struct Reply {
-    pub refusal: u64,
-    pub v: [u64; 7],
+// The numbers that an answer shows, or the number of a refusal.
+pub type Reply = Result<[u64; 7], u64>;
+
+// The numbers of an answer that has up to three.
+pub fn numbers(a: u64, b: u64, c: u64) -> [u64; 7]
+    ensures { result ≡ numbers a b c }
+{
+    [a, b, c, 0, 0, 0, 0]
 }
 
-// A reply of up to three numbers.
-pub fn replied(refusal: u64, a: u64, b: u64, c: u64) -> Reply
-    ensures { result ≡ replied refusal a b c }
+// A value beside which codec_abi, made for C, gives the number of a refusal, 0 for none.
+pub fn unless_refused<T: Drop>(refusal: u64, value: T) -> Result<T, u64>
+    ensures { result ≡ unless_refused refusal value }
 {
-    Reply {
-        refusal,
-        v: [a, b, c, 0, 0, 0, 0],
+    if refusal == 0 {
+        return Ok(value);
     }
+    Err(refusal)
 }
 
 // ---- text
 
 // A reply: its refusal, or its numbers as the shape says.
-pub fn put_reply(reply: Reply, shape: &[u8], out: &mut [u8], at: usize) -> usize
-    ensures { Put out.old at (reply_text reply shape.now) out.new result }
+pub fn put_reply<const N: usize>(reply: Reply, shape: &[u8], out: &mut Text<N>)
+    ensures { out.new ≡ put out.old (reply_text reply shape.now) }
 {
-    let n = reply.refusal;
-    if n != 0 {
-        return put_refused(n, out, at);
+    match reply {
+        Ok(v) => put_fields(v, shape, out),
+        Err(n) => put_refused(n, out),
     }
-    let v = reply.v;
-    put_fields(v, shape, out, at)
 }
 
 // A refusal, by its number.
-fn put_refused(n: u64, out: &mut [u8], at: usize) -> usize
-    ensures { Put out.old at (refused_text n) out.new result }
+fn put_refused<const N: usize>(n: u64, out: &mut Text<N>)
+    ensures { out.new ≡ put out.old (refused_text n) }
 {
-    let p = text::put_bytes(out, at, b"refused ");
-    text::put_decimal(out, p, n)
+    out.put_bytes(b"refused ");
+    out.put_decimal(n);
 }
 
 // A number for each letter of the shape, parted by spaces. No shape has more than seven letters.
-fn put_fields(v: [u64; 7], shape: &[u8], out: &mut [u8], at: usize) -> usize
-    ensures { Put out.old at (fields_text v shape.now) out.new result }
+#[tactic(auto, using(text::proofs::Putting::puts_joined), unfolding(crate::specs::Text::fields_upto))]
+fn put_fields<const N: usize>(v: [u64; 7], shape: &[u8], out: &mut Text<N>)
+    ensures { out.new ≡ put out.old (fields_text v shape.now) }
 {
-    let n = shape.len();
-    if 7 < n {
-        return at;
+    if shape.len() > 7 {
+        return;
     }
-    let mut p = at;
-    let mut i: usize = 0;
-    while i < n {
-        p = put_field(i, v[i], shape[i], out, p);
-        i += 1;
+    for (i, &letter) in shape.iter().enumerate() {
+        put_field(i, v[i], letter, out);
     }
-    p
 }
 
 // The number at place i of an answer, after a space but for the first.
-fn put_field(i: usize, n: u64, letter: u8, out: &mut [u8], at: usize) -> usize
-    ensures { Put out.old at (field_text i n letter) out.new result }
+fn put_field<const N: usize>(i: usize, n: u64, letter: u8, out: &mut Text<N>)
+    ensures { out.new ≡ put out.old (field_text i n letter) }
 {
-    if i == 0 {
-        return put_number(n, letter, out, at);
+    if i > 0 {
+        out.put_byte(b' ');
     }
-    let p = text::put_byte(out, at, b' ');
-    put_number(n, letter, out, p)
+    put_number(n, letter, out);
 }
 
 // A number with as many digits as its letter says; for K the word `ok`.
-fn put_number(n: u64, letter: u8, out: &mut [u8], at: usize) -> usize
-    ensures { Put out.old at (number_text n letter) out.new result }
+fn put_number<const N: usize>(n: u64, letter: u8, out: &mut Text<N>)
+    ensures { out.new ≡ put out.old (number_text n letter) }
 {
-    if letter == b'K' {
-        return text::put_bytes(out, at, b"ok");
+    match letter {
+        b'K' => out.put_bytes(b"ok"),
+        _ => out.put_hex(n, width(letter)),
     }
-    text::put_hex(out, at, n, width(letter))
 }
 
-// ---- numbers
-
-// The eight bytes of n in the other order: a payload is written byte 0 first, and counts byte 0
-// lowest.
-#[tactic(auto, unfolding(crate::specs::Numbers::swapped))]
-pub fn swapped(n: u64) -> u64
-    ensures { result ≡ swapped n }
-{
-    swapped4(n % 0x1_0000_0000) * 0x1_0000_0000 + swapped4(n / 0x1_0000_0000)
-}
-
-// The four low bytes of n in the other order.
-#[tactic(auto, unfolding(crate::specs::Numbers::swapped4))]
-pub fn swapped4(n: u64) -> u64
-    ensures { (result ≡ swapped4 n) × (result < 4294967296) }
-{
-    n % 256 * 0x100_0000
-        + n / 0x100 % 256 * 0x1_0000
-        + n / 0x1_0000 % 256 * 0x100
-        + n / 0x100_0000 % 256
-}
+// ---- numbers: `as` may lose nothing, so what is kept is taken first
 
 pub fn low8(n: u64) -> u8
     ensures { result ≡ n % 2 ^ 8 }

@@ -8,17 +8,10 @@ mod motion;
 mod replies;
 mod requests;
 
-use lines::Streams;
 use std::io;
+use std::io::BufReader;
 
 fn main(rt: HostRuntime) -> io::Result<()> {
-    let mut inp = [0u8; 4096];
-    let mut out = [0u8; 65536];
-    let mut streams = Streams {
-        stdin: rt.stdin(),
-        stdout: rt.stdout(),
-        said: Ok(()),
-    };
-    lines::run(&mut inp, &mut out, &mut streams);
-    streams.said
+    let mut input = BufReader::new(rt.alloc(), rt.stdin())?;
+    lines::run(rt.alloc(), &mut input, &mut rt.stdout())
 }

@@ -3,14 +3,14 @@ ghost use Rattle.std.specs.Prelude.{◌≡◌, ◌%◌, ◌^◌};
 ghost use Rattle.vectors.specs.Numbers.{float_of, bits_of};
 ghost use Rattle.vectors.specs.Answers as answer;
 
-use crate::fields::{Reply, low16, low32, replied, swapped};
+use crate::fields::{Reply, low16, low32, numbers, unless_refused};
 use codec_abi::values;
 
 // A float's bits.
 fn bits_of(x: f32) -> u64
     ensures { result ≡ bits_of x }
 {
-    values::codec_word_of(x) as u64
+    u64::from(values::codec_word_of(x))
 }
 
 // The float of the low 32 bits.
@@ -24,65 +24,52 @@ pub fn motion_raw(v: [u64; 6]) -> Reply
     ensures { result ≡ answer.motion_raw v }
 {
     let raw = values::codec_motion_raw(value(v[0]), value(v[1]));
-    replied(0, raw as u64, 0, 0)
+    Ok(numbers(u64::from(raw), 0, 0))
 }
 
 pub fn gain_raw(v: [u64; 6]) -> Reply
     ensures { result ≡ answer.gain_raw v }
 {
     let raw = values::codec_gain_raw(value(v[0]), value(v[1]));
-    replied(0, raw as u64, 0, 0)
+    Ok(numbers(u64::from(raw), 0, 0))
 }
 
 pub fn status_value(v: [u64; 6]) -> Reply
     ensures { result ≡ answer.status_value v }
 {
     let x = values::codec_status_value(low16(v[0]), value(v[1]));
-    replied(0, bits_of(x), 0, 0)
+    Ok(numbers(bits_of(x), 0, 0))
 }
 
 pub fn temperature(v: [u64; 6]) -> Reply
     ensures { result ≡ answer.temperature v }
 {
     let x = values::codec_temperature(low16(v[0]));
-    replied(0, bits_of(x), 0, 0)
+    Ok(numbers(bits_of(x), 0, 0))
 }
 
-// A model's limits and the refusal of its name.
-#[derive(Clone, Copy)]
-struct Named {
-    refusal: u64,
-    limits: [f32; 5],
-}
-
-fn limits_named(name: &[u8]) -> Named
+// A model's limits, or the refusal of its name.
+fn limits_named(name: &[u8]) -> Result<[f32; 5], u64>
     ensures { result ≡ answer.limits_named name.now }
 {
     let mut limits = [0.0f32; 5];
     let n = values::codec_model_limits(name, &mut limits);
-    Named {
-        refusal: n as u64,
-        limits,
-    }
+    unless_refused(u64::from(n), limits)
 }
 
 pub fn model_limits(name: &[u8]) -> Reply
     ensures { result ≡ answer.model_limits name.now }
 {
-    let found = limits_named(name);
-    let m = found.limits;
-    Reply {
-        refusal: found.refusal,
-        v: [
-            bits_of(m[0]),
-            bits_of(m[1]),
-            bits_of(m[2]),
-            bits_of(m[3]),
-            bits_of(m[4]),
-            0,
-            0,
-        ],
-    }
+    let m = limits_named(name)?;
+    Ok([
+        bits_of(m[0]),
+        bits_of(m[1]),
+        bits_of(m[2]),
+        bits_of(m[3]),
+        bits_of(m[4]),
+        0,
+        0,
+    ])
 }
 
 // Position, velocity, kp, kd and torque.
@@ -101,47 +88,31 @@ fn targets(v: [u64; 6]) -> [f32; 5]
 pub fn encode_mit_command(v: [u64; 6], name: &[u8]) -> Reply
     ensures { result ≡ answer.encode_mit_command v name.now }
 {
-    let found = limits_named(name);
-    let m = found.limits;
+    let m = limits_named(name)?;
     let x = targets(v);
     let mut bytes: u64 = 0;
     let extra = values::codec_encode_mit_command(
         x[0], x[1], x[2], x[3], x[4], m[0], m[1], m[2], m[3], m[4], &mut bytes,
     );
-    replied(found.refusal, extra as u64, swapped(bytes), 0)
-}
-
-pub fn decode_status_frame(v: [u64; 6], name: &[u8]) -> Reply
-    ensures { result ≡ answer.decode_status_frame v name.now }
-{
-    let found = limits_named(name);
-    let m = found.limits;
-    let mut x = [0.0f32; 4];
-    let said = values::codec_decode_status_frame(
-        low16(v[0]),
-        swapped(v[1]),
-        m[0],
-        m[1],
-        m[2],
-        &mut x,
-    );
-    status(found.refusal, said as u64, x)
+    Ok(numbers(u64::from(extra), bytes.swap_bytes(), 0))
 }
 
 // Mode, device and flags, then the four values.
-fn status(refusal: u64, said: u64, x: [f32; 4]) -> Reply
-    ensures { result ≡ answer.status_reply refusal said x }
+pub fn decode_status_frame(v: [u64; 6], name: &[u8]) -> Reply
+    ensures { result ≡ answer.decode_status_frame v name.now }
 {
-    Reply {
-        refusal,
-        v: [
-            said,
-            said / 0x100,
-            said / 0x1_0000,
-            bits_of(x[0]),
-            bits_of(x[1]),
-            bits_of(x[2]),
-            bits_of(x[3]),
-        ],
-    }
+    let m = limits_named(name)?;
+    let mut x = [0.0f32; 4];
+    let bytes = v[1].swap_bytes();
+    let said = values::codec_decode_status_frame(low16(v[0]), bytes, m[0], m[1], m[2], &mut x);
+    let said = u64::from(said);
+    Ok([
+        said,
+        said / 0x100,
+        said / 0x1_0000,
+        bits_of(x[0]),
+        bits_of(x[1]),
+        bits_of(x[2]),
+        bits_of(x[3]),
+    ])
 }

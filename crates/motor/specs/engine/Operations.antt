@@ -35,13 +35,14 @@ begins_with command.Enable = send_with_status_ack request.Enable 240 acked.Done
 begins_with command.Disable = send_with_status_ack request.Disable 240 acked.Done
 begins_with command.ClearError = send_with_status_ack request.ClearError 240 acked.FaultCleared
 begins_with (command.SetActiveReport on) = node.Last (request.ActiveReport on)
-begins_with (command.SendCmdMit position velocity kp kd torque) = node.Motion position.bits velocity.bits kp.bits kd.bits torque.bits outcome.Done
+begins_with (command.SendCmdMit position velocity kp kd torque) =
+    node.Motion (record { position = position; velocity = velocity; kp = kp; kd = kd; torque = torque }) outcome.Done
 begins_with (command.SetVelocityTarget velocity) = put 0x700A (value.F32 velocity) acked.Done
 begins_with (command.GetControlMode timeout) = get_parameter 0x7005 timeout got.Mode
 begins_with (command.ControlledStop timeout) = get_parameter 0x7005 timeout (got.StopMode timeout)
 begins_with (command.WriteParameter id v) = put id v acked.Done
-begins_with (command.SendCmdPosVelCsp position most) = set_mode mode.PositionCsp (acked.CspEnable position.bits most.bits)
-begins_with (command.SendCmdPosVelPp position most acceleration) = set_mode mode.Position (acked.PpEnable position.bits most.bits acceleration.bits)
+begins_with (command.SendCmdPosVelCsp position most) = set_mode mode.PositionCsp (acked.CspEnable position most)
+begins_with (command.SendCmdPosVelPp position most acceleration) = set_mode mode.Position (acked.PpEnable position most acceleration)
 begins_with (command.RequestParameter id) = node.Last (request.Read id)
 begins_with (command.GetParameter id timeout) = get_parameter id timeout got.Value
 begins_with (command.GetParameterWithHostId id host timeout) = node.Await (wait.Value id got.Value) (window_of timeout 0) (hosts.Named host)

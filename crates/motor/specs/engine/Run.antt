@@ -1,15 +1,13 @@
 -- How an operation goes on: windows, candidates, marks, deadlines and pauses, once for all operations. Definitions only.
-use Rattle.std.specs.Prelude.{ℕ, ◌+◌, false, cond, [], ◌∷◌, ◌==◌, nat_lt, slice_index}
+use Rattle.std.specs.Prelude.{ℕ, ◌+◌, cond, [], ◌∷◌, ◌==◌, nat_lt, slice_index, Option, Some, None, Result, Ok, Err, unwrap_or, is_some}
+use Rattle.std.specs.Option.{option_map_or}
+use Rattle.motor.specs.declared.engine.reading.Stored.{Stored}
+use Rattle.codec.specs.declared.error.Refusal.{Refusal}
 use Rattle.codec.specs.declared.bus.CanFrame.{CanFrame}
 use Rattle.codec.specs.Numbers.{refusal_of}
-use Rattle.codec.specs.declared.protocol.EncodedValue.{EncodedValue}
-use Rattle.codec.specs.declared.protocol.EncodedValue.TheVariants as encoded
 use Rattle.codec.specs.declared.replies.VersionReply.{VersionReply}
-use Rattle.codec.specs.declared.word.Word.{Word}
-use Rattle.codec.specs.Replies.{zeros}
+use Rattle.codec.specs.Replies.{zeros, blank_ping}
 use Rattle.codec.specs.Values.{encode_parameter_value}
-use Rattle.motor.specs.declared.engine.candidates.Host.{Host}
-use Rattle.motor.specs.declared.engine.candidates.Host.TheVariants as host
 use Rattle.motor.specs.declared.engine.candidates.Hosts.{Hosts}
 use Rattle.motor.specs.declared.engine.candidates.Hosts.TheVariants as hosts
 use Rattle.motor.specs.declared.engine.command.Command.{Command}
@@ -19,7 +17,6 @@ use Rattle.motor.specs.declared.engine.command.Said.{Said}
 use Rattle.motor.specs.declared.engine.command.Said.TheVariants as said
 use Rattle.motor.specs.declared.engine.operation.Effect.{Effect}
 use Rattle.motor.specs.declared.engine.operation.Effect.TheVariants as effect
-use Rattle.motor.specs.declared.engine.operation.HeldVersion.{HeldVersion}
 use Rattle.motor.specs.declared.engine.operation.Move.{Move}
 use Rattle.motor.specs.declared.engine.operation.Operation.{Operation}
 use Rattle.motor.specs.declared.engine.operation.Phase.{Phase}
@@ -34,23 +31,20 @@ use Rattle.motor.specs.declared.engine.node.Node.TheVariants as node
 use Rattle.motor.specs.declared.engine.node.Pinged.{Pinged}
 use Rattle.motor.specs.declared.engine.node.Request.{Request}
 use Rattle.motor.specs.declared.engine.node.Request.TheVariants as request
+use Rattle.motor.specs.declared.engine.node.Targets.{Targets}
 use Rattle.motor.specs.declared.engine.node.Wait.{Wait}
 use Rattle.motor.specs.declared.engine.node.Wait.TheVariants as wait
-use Rattle.motor.specs.declared.engine.run.AfterNode.{AfterNode}
-use Rattle.motor.specs.declared.engine.run.AfterNode.TheVariants as after
-use Rattle.motor.specs.declared.engine.reading.Found.{Found}
-use Rattle.motor.specs.declared.engine.reading.Found.TheVariants as found
 use Rattle.motor.specs.Limits.{latest_time}
 use Rattle.motor.specs.engine.Hosts.{first_host, next_host}
 use Rattle.motor.specs.engine.Operations.{begins_with, acked_of, got_value, got_ping, windows_gone}
 use Rattle.motor.specs.engine.Requests.{request_frame, motion_of, motion_frame, rename_frame, no_frame}
-use Rattle.motor.specs.engine.Script.{window_of, word}
+use Rattle.motor.specs.engine.Script.{window_of}
 
 -- ---- how an operation stands
 
 -- no answer to a get_version
-abbrev pub no_version : HeldVersion
-no_version = record { held = false; reply = record { device_id = 0; version = 0 ∷ 0 ∷ 0 ∷ 0 ∷ [] } }
+abbrev pub no_version : Option VersionReply
+no_version = None
 
 abbrev pub no_operation : Operation
 no_operation = record { phase = phase.Idle; due = 0; window = 0; hosts = hosts.Candidates; host = 0; candidate = 0; mark = 0; answer = no_version }
@@ -73,7 +67,7 @@ ended_with r f e = record { said = said.FinishedWith r; frame = f; result = zero
 -- a ping's result: device, responder, and its payload beside
 abbrev pub ping_reported : Sight → Move
 ping_reported s =
-    let reply = s.ping_reply.reply in
+    let reply = unwrap_or s.ping_reply blank_ping in
     record { said = said.Finished (outcome.Ping reply.device_id reply.responder_id); frame = no_frame; result = reply.payload; operation = no_operation; effect = effect.Nothing }
 
 -- a version: its device, and its four bytes beside
@@ -140,53 +134,31 @@ tried s now w window whom h next =
 
 -- ---- a node is entered
 
--- what follows a frame that nothing waits for: it ends, it pauses, or it goes on at once
-abbrev pub after_node : Node → AfterNode
-after_node (node.Finish r) = after.Ends r
-after_node node.Report = after.Goes
-after_node node.ClearFault = after.Goes
-after_node (node.Fail r) = after.Goes
-after_node (node.Pause d k) = after.Pauses d k
-after_node (node.Last r) = after.Goes
-after_node (node.Write id v k) = after.Goes
-after_node (node.Await w window whom) = after.Goes
-after_node (node.Motion p v kp kd t r) = after.Goes
-after_node (node.Rename new) = after.Goes
-
--- it comes with finished; a pause begins in this step; or what follows is due at once
-abbrev pub send_then : ℕ → CanFrame → Acked → AfterNode → Move
-send_then now f k (after.Ends r) = ended_with r f effect.Nothing
-send_then now f k (after.Pauses d then) = sent_on f then (now + d)
-send_then now f k after.Goes = sent_on f k now
+-- what follows a frame that nothing waits for: it comes with finished; a pause begins in this step; or what follows is due at once
+abbrev pub send_then : ℕ → CanFrame → Acked → Node → Move
+send_then now f k (node.Finish r) = ended_with r f effect.Nothing
+send_then now f k (node.Pause d then) = sent_on f then (now + d)
+send_then now f k _ = sent_on f k now
 
 -- a write goes through the encoder; it is acknowledged by a status where the motor has a write wait
 abbrev pub write_raw : Sight → ℕ → Request → Acked → Move
 write_raw s now r k =
     cond (s.write_wait == 0)
-    (send_then now (request_frame s r s.feedback_id) k (after_node (acked_of k)))
+    (send_then now (request_frame s r s.feedback_id) k (acked_of k))
     (tried s now (wait.Acknowledged by.Status r k) (window_of s.write_wait 120) hosts.Candidates s.feedback_id 1)
 
-abbrev pub write : Sight → ℕ → ℕ → Acked → EncodedValue → Move
-write s now id k (encoded.Raw raw) = write_raw s now (request.Write id raw) k
-write s now id k (encoded.Refused r) = ended (said.Refused r) effect.Nothing
+abbrev pub write : Sight → ℕ → ℕ → Acked → Result ℕ Refusal → Move
+write s now id k (Ok raw) = write_raw s now (request.Write id raw) k
+write s now id k (Err r) = ended (said.Refused r) effect.Nothing
 
 -- request_parameter drops the held reading
 abbrev pub dropped_by_last : Request → Effect
-dropped_by_last request.Ping = effect.Nothing
-dropped_by_last request.Enable = effect.Nothing
-dropped_by_last request.Disable = effect.Nothing
-dropped_by_last request.ClearError = effect.Nothing
-dropped_by_last request.SetZeroPosition = effect.Nothing
 dropped_by_last (request.Read id) = effect.ForgetReading id
-dropped_by_last (request.Write id raw) = effect.Nothing
-dropped_by_last request.SaveParameters = effect.Nothing
-dropped_by_last (request.ActiveReport on) = effect.Nothing
-dropped_by_last (request.SetProtocol protocol) = effect.Nothing
-dropped_by_last request.Version = effect.Nothing
+dropped_by_last _ = effect.Nothing
 
 -- a motion command is finished as it is sent; its gains are held as given
-abbrev pub motion_sent : Sight → Word → Word → Word → Word → Word → Outcome → Move
-motion_sent s p v kp kd t r = ended_with r (motion_frame s (motion_of s p v kp kd t)) (effect.HoldGains (record { kp = kp; kd = kd }))
+abbrev pub motion_sent : Sight → Targets → Outcome → Move
+motion_sent s t r = ended_with r (motion_frame s (motion_of s t)) (effect.HoldGains (record { kp = t.kp; kd = t.kd }))
 
 abbrev pub awaited : Sight → ℕ → Wait → ℕ → Hosts → Move
 awaited s now w window whom = tried s now w window whom (first_host s.feedback_id whom) 1
@@ -200,15 +172,15 @@ entered s now (node.Pause d k) = pauses k (now + d)
 entered s now (node.Last r) = ended_with outcome.Done (request_frame s r s.feedback_id) (dropped_by_last r)
 entered s now (node.Write id v k) = write s now id k (encode_parameter_value id v)
 entered s now (node.Await w window whom) = awaited s now w window whom
-entered s now (node.Motion p v kp kd t r) = motion_sent s (word p) (word v) (word kp) (word kd) (word t) r
+entered s now (node.Motion t r) = motion_sent s t r
 entered s now (node.Rename new) = ended_with outcome.Done (rename_frame s new) effect.Nothing
 
 -- ---- a step
 
 -- the window is gone: the next host, if there is one
-abbrev pub retry_at : Sight → ℕ → Operation → Wait → Host → Move
-retry_at s now op w (host.At h next) = tried s now w op.window op.hosts h next
-retry_at s now op w host.Gone = entered s now (windows_gone w)
+abbrev pub retry_at : Sight → ℕ → Operation → Wait → Option (ℕ × ℕ) → Move
+retry_at s now op w (Some (h, next)) = tried s now w op.window op.hosts h next
+retry_at s now op w None = entered s now (windows_gone w)
 
 abbrev pub retried : Sight → ℕ → Operation → Wait → Move
 retried s now op w = retry_at s now op w (next_host s.feedback_id op.hosts op.candidate)
@@ -223,19 +195,19 @@ looked_ack s now op by r k =
     timed s now op (wait.Acknowledged by r k) (cond (nat_lt op.mark (acknowledgement_count s by)) (entered s now (acked_of k)) (waits op))
 
 -- a read: the value first, then the deadline
-abbrev pub looked_value : Sight → ℕ → Operation → ℕ → Got → Found → Move
-looked_value s now op id k (found.Held r) = entered s now (got_value s k r.value)
-looked_value s now op id k found.Nothing = timed s now op (wait.Value id k) (waits op)
+abbrev pub looked_value : Sight → ℕ → Operation → ℕ → Got → Option Stored → Move
+looked_value s now op id k (Some r) = entered s now (got_value s k r.value)
+looked_value s now op id k None = timed s now op (wait.Value id k) (waits op)
 
 -- a ping likewise
 abbrev pub looked_ping : Sight → ℕ → Operation → Pinged → Move
-looked_ping s now op k = cond s.ping_reply.held (entered s now (got_ping k)) (timed s now op (wait.Ping k) (waits op))
+looked_ping s now op k = cond (is_some s.ping_reply) (entered s now (got_ping k)) (timed s now op (wait.Ping k) (waits op))
 
 -- get_version: the answer first, then the deadline; it can't be 23 (specs/Versions)
 abbrev pub looked_version : Sight → ℕ → Operation → Move
-looked_version s now op = cond op.answer.held (version_reported op.answer.reply) (timed s now op wait.Version (waits op))
+looked_version s now op = option_map_or version_reported op.answer (timed s now op wait.Version (waits op))
 
-abbrev pub looked : Sight → ℕ → Operation → Found → Wait → Move
+abbrev pub looked : Sight → ℕ → Operation → Option Stored → Wait → Move
 looked s now op f (wait.Acknowledged by r k) = looked_ack s now op by r k
 looked s now op f (wait.Value id k) = looked_value s now op id k f
 looked s now op f (wait.Ping k) = looked_ping s now op k
@@ -245,7 +217,7 @@ abbrev pub looked_pause : Sight → ℕ → Operation → Acked → Move
 looked_pause s now op k = cond (nat_lt now op.due) (waits op) (entered s now (acked_of k))
 
 -- what a step does, by where the operation stands; f is the reading held for the parameter that is waited for
-abbrev pub advanced : Sight → ℕ → Operation → Found → Phase → Move
+abbrev pub advanced : Sight → ℕ → Operation → Option Stored → Phase → Move
 advanced s now op f phase.Idle = ended (said.Refused (refusal_of 21 [])) effect.Nothing
 advanced s now op f (phase.Pausing k) = looked_pause s now op k
 advanced s now op f (phase.Waiting w) = looked s now op f w

@@ -1,19 +1,17 @@
 -- The operations. Each begins with a node and goes on by what follows an acknowledgement, a value or a ping reply, or when every
 -- window is gone; each block below reads like the Rust's method of that name. Definitions only.
-use Rattle.std.specs.Prelude.{ℕ, zero, suc, ◌%◌, ◌^◌, Bool, cond, ◌&&◌, [], ℤ, ◌==◌, from_bits, nat_lt, Float}
+use Rattle.std.specs.Prelude.{ℕ, zero, suc, ◌%◌, ◌^◌, Bool, cond, ◌&&◌, [], ℤ, ◌==◌, from_bits, nat_lt, Float, Option, Some, None, Result, Ok, Err}
 use Rattle.std.specs.Float.{binary32}
 use Rattle.std.specs.Float.Ieee.{mul, lt}
 use Rattle.std.specs.Int.{w8}
 use Rattle.std.proofs.Common.{of_z}
+use Rattle.codec.specs.declared.error.Refusal.{Refusal}
 use Rattle.codec.specs.Numbers.{refusal_of}
 use Rattle.codec.specs.Refusals as refusals
-use Rattle.codec.specs.declared.error.LastMode.TheVariants as last
 use Rattle.codec.specs.declared.protocol.ParameterValue.{ParameterValue}
 use Rattle.codec.specs.declared.protocol.ParameterValue.TheVariants as value
 use Rattle.codec.specs.declared.registers.ControlMode.{ControlMode}
 use Rattle.codec.specs.declared.registers.ControlMode.TheVariants as mode
-use Rattle.codec.specs.declared.registers.ModeRead.{ModeRead}
-use Rattle.codec.specs.declared.registers.ModeRead.TheVariants as read
 use Rattle.codec.specs.declared.word.Word.{Word}
 use Rattle.codec.specs.Models.{limits_of}
 use Rattle.codec.specs.Modes.{control_mode_number, control_mode_from_raw}
@@ -21,10 +19,6 @@ use Rattle.codec.specs.Words.{value_of, word_of}
 use Rattle.motor.specs.declared.engine.candidates.Hosts.TheVariants as hosts
 use Rattle.motor.specs.declared.engine.command.Outcome.TheVariants as outcome
 use Rattle.motor.specs.declared.engine.operation.Sight.{Sight}
-use Rattle.motor.specs.declared.engine.kinds.FloatIn.{FloatIn}
-use Rattle.motor.specs.declared.engine.kinds.FloatIn.TheVariants as float
-use Rattle.motor.specs.declared.engine.kinds.SignedIn.{SignedIn}
-use Rattle.motor.specs.declared.engine.kinds.SignedIn.TheVariants as signed
 use Rattle.motor.specs.declared.engine.node.Acked.{Acked}
 use Rattle.motor.specs.declared.engine.node.Acked.TheVariants as acked
 use Rattle.motor.specs.declared.engine.node.Acknowledgement.TheVariants as by
@@ -85,10 +79,6 @@ ping_each timeout k = node.Await (wait.Ping k) (window_of timeout 120) hosts.Can
 abbrev pub zero_word : Word
 zero_word = record { bits = 0 }
 
--- the word of these bits
-abbrev pub word : ℕ → Word
-word bits = record { bits = bits }
-
 -- ---- set_protocol: with timeout 0 nothing waits
 
 abbrev pub set_protocol : ℕ → ℕ → Node
@@ -97,43 +87,34 @@ set_protocol protocol timeout =
 
 -- ---- get_control_mode, and the reads that ask for a kind: 20 where the value is of another, 17 where it is no mode
 
-abbrev pub mode_or17 : ModeRead → (ControlMode → Node) → Node
-mode_or17 (read.Mode m) k = k m
-mode_or17 (read.Refused r) k = node.Fail (refusal_of 17 [])
+abbrev pub mode_or17 : Result ControlMode Refusal → (ControlMode → Node) → Node
+mode_or17 (Ok m) k = k m
+mode_or17 (Err r) k = node.Fail (refusal_of 17 [])
 
-abbrev pub signed_in : ParameterValue → SignedIn
-signed_in (value.I8 v) = signed.Signed v
-signed_in (value.U8 v) = signed.Another
-signed_in (value.U16 v) = signed.Another
-signed_in (value.U32 v) = signed.Another
-signed_in (value.F32 w) = signed.Another
+abbrev pub signed_in : ParameterValue → Option ℤ
+signed_in (value.I8 v) = Some v
+signed_in _ = None
 
-abbrev pub float_in : ParameterValue → FloatIn
-float_in (value.I8 v) = float.Another
-float_in (value.U8 v) = float.Another
-float_in (value.U16 v) = float.Another
-float_in (value.U32 v) = float.Another
-float_in (value.F32 w) = float.Float w
+abbrev pub float_in : ParameterValue → Option Word
+float_in (value.F32 w) = Some w
+float_in _ = None
 
 abbrev pub other_kind : Node
 other_kind = node.Fail (refusal_of 20 [])
 
 abbrev pub as_flag : ParameterValue → Node
-as_flag (value.I8 v) = other_kind
 as_flag (value.U8 v) = node.Finish (outcome.Flag v)
-as_flag (value.U16 v) = other_kind
-as_flag (value.U32 v) = other_kind
-as_flag (value.F32 w) = other_kind
+as_flag _ = other_kind
 
-abbrev pub as_signed : SignedIn → (ℤ → Node) → Node
-as_signed (signed.Signed v) k = k v
-as_signed signed.Another k = other_kind
+abbrev pub as_signed : Option ℤ → (ℤ → Node) → Node
+as_signed (Some v) k = k v
+as_signed None k = other_kind
 
-abbrev pub as_float : FloatIn → (Word → Node) → Node
-as_float (float.Float w) k = k w
-as_float float.Another k = other_kind
+abbrev pub as_float : Option Word → (Word → Node) → Node
+as_float (Some w) k = k w
+as_float None k = other_kind
 
-abbrev pub as_mode : SignedIn → (ControlMode → Node) → Node
+abbrev pub as_mode : Option ℤ → (ControlMode → Node) → Node
 as_mode v k = as_signed v (λ n. mode_or17 (control_mode_from_raw n) k)
 
 -- ---- controlled_stop: the run mode is read, and what holds the motor in that mode is sent
@@ -152,39 +133,41 @@ stop_in timeout mode.PositionCsp = get_parameter 0x7019 timeout got.StopCsp
 abbrev pub stop_at : Sight → Word → Node
 stop_at s angle =
     let most = limits_of s.model in
-    node.Motion angle.bits 0 (stop_gain s.gains.kp most.kp).bits (stop_gain s.gains.kd most.kd).bits 0 (outcome.Mode mode.Mit)
+    node.Motion
+    (record { position = angle; velocity = zero_word; kp = stop_gain s.gains.kp most.kp; kd = stop_gain s.gains.kd most.kd; torque = zero_word })
+    (outcome.Mode mode.Mit)
 
 -- ---- send_cmd_pos_vel_csp, send_cmd_pos_vel_pp: mode, enable, each limit's absolute value if finite and above 0, the target
 
--- floats as their bits
-unfoldable pub abs_of : ℕ → ℕ
-abs_of w = w % 2 ^ 31
+-- the sign taken off
+unfoldable pub abs_of : Word → Word
+abs_of w = record { bits = w.bits % 2 ^ 31 }
 
 -- finite and above 0, of an absolute value
-abbrev pub is_usable : ℕ → Bool
-is_usable w = nat_lt 0 w && nat_lt w 0x7F800000
+abbrev pub is_usable : Word → Bool
+is_usable w = nat_lt 0 w.bits && nat_lt w.bits 0x7F800000
 
-abbrev pub position_target : ℕ → Node
-position_target position = put 0x7016 (value.F32 (word position)) acked.Done
+abbrev pub position_target : Word → Node
+position_target position = put 0x7016 (value.F32 position) acked.Done
 
 -- a limit is written to this parameter, then k; or at once what k comes to
-abbrev pub put_limit : ℕ → ℕ → Acked → Node → Node
-put_limit id w k at_once = cond (is_usable (abs_of w)) (put id (value.F32 (word (abs_of w))) k) at_once
+abbrev pub put_limit : ℕ → Word → Acked → Node → Node
+put_limit id w k at_once = cond (is_usable (abs_of w)) (put id (value.F32 (abs_of w)) k) at_once
 
-abbrev pub csp_limit : ℕ → ℕ → Node
+abbrev pub csp_limit : Word → Word → Node
 csp_limit position most = put_limit 0x7017 most (acked.Target position) (position_target position)
 
-abbrev pub pp_acceleration : ℕ → ℕ → Node
+abbrev pub pp_acceleration : Word → Word → Node
 pp_acceleration position acceleration = put_limit 0x7025 acceleration (acked.Target position) (position_target position)
 
-abbrev pub pp_velocity : ℕ → ℕ → ℕ → Node
+abbrev pub pp_velocity : Word → Word → Word → Node
 pp_velocity position most acceleration = put_limit 0x7024 most (acked.PpAcceleration position acceleration) (pp_acceleration position acceleration)
 
 -- ---- ensure_control_mode: read; if it isn't the mode, off, a pause of 60, and three attempts to write it and read it back, with
 -- pauses of 30. A failed disable doesn't end it
 
 abbrev pub aim_at : ControlMode → ℕ → Aim
-aim_at m timeout = record { mode = m; timeout = timeout; left = 3; actual = last.Unread }
+aim_at m timeout = record { mode = m; timeout = timeout; left = 3; actual = None }
 
 -- the value read is the mode aimed at; `of_z w8` is the byte of a signed number
 unfoldable pub is_mode : Aim → ℤ → Bool
@@ -206,15 +189,15 @@ try_again a = node.Pause 30 (acked.Ensure ensure.Try a)
 
 -- the last value read after a mode write
 abbrev pub last_read : Aim → ℤ → Aim
-last_read a v = record { mode = a.mode; timeout = a.timeout; left = a.left; actual = last.Read v }
+last_read a v = record { mode = a.mode; timeout = a.timeout; left = a.left; actual = Some v }
 
-abbrev pub first_read : Aim → SignedIn → Node
-first_read a (signed.Signed v) = cond (is_mode a v) finished (mode_off a)
-first_read a signed.Another = mode_off a
+abbrev pub first_read : Aim → Option ℤ → Node
+first_read a (Some v) = cond (is_mode a v) finished (mode_off a)
+first_read a None = mode_off a
 
-abbrev pub back_read : Aim → SignedIn → Node
-back_read a (signed.Signed v) = cond (is_mode a v) finished (try_again (last_read a v))
-back_read a signed.Another = try_again a
+abbrev pub back_read : Aim → Option ℤ → Node
+back_read a (Some v) = cond (is_mode a v) finished (try_again (last_read a v))
+back_read a None = try_again a
 
 abbrev pub ensure_acked : Ensure → Aim → Node
 ensure_acked ensure.Off a = node.Pause 60 (acked.Ensure ensure.Try a)

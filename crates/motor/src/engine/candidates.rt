@@ -2,7 +2,7 @@
 ghost use Rattle.std.specs.Prelude.{◌≡◌};
 ghost use Rattle.motor.specs.engine.Hosts.{host_candidates, host_at, first_host, next_host};
 
-// The host candidates: a four-place array and a count. Places past the count are 0.
+// The host candidates. A four-place array and a count, and no list: host_candidates promises the places past the count, 0.
 #[derive(Clone, Copy)]
 pub struct Candidates {
     pub hosts: [u16; 4],
@@ -17,14 +17,8 @@ pub enum Hosts {
     Own,
 }
 
-// The host of an attempt with the place of the next, or none.
-#[derive(Clone, Copy)]
-pub enum Host {
-    At(u16, u8),
-    Gone,
-}
-
 // The motor's own host, then FD, FF, FE, with adjacent equals dropped.
+#[tactic(auto, unfolding(crate::specs::engine::Hosts::host_candidates))]
 pub fn host_candidates(own: u16) -> Candidates
     ensures { result ≡ host_candidates own }
 {
@@ -45,31 +39,29 @@ pub(super) fn first_host(own: u16, hosts: Hosts) -> u16
     ensures { result ≡ first_host own hosts }
 {
     match hosts {
-        Hosts::Candidates => own,
+        Hosts::Candidates | Hosts::Own => own,
         Hosts::Named(host) => host,
-        Hosts::Own => own,
     }
 }
 
-// The candidate at a place.
-fn host_at(own: u16, place: u8) -> Host
+// The candidate at a place, with the place of the next.
+#[tactic(auto, unfolding(crate::specs::engine::Hosts::host_candidates))]
+fn host_at(own: u16, place: u8) -> Option<(u16, u8)>
     ensures { result ≡ host_at (host_candidates own) place }
 {
-    let c = host_candidates(own);
-    let hosts = c.hosts;
-    if place < c.count {
-        return Host::At(hosts[place as usize], place + 1);
+    let Candidates { hosts, count } = host_candidates(own);
+    if place < count {
+        return Some((hosts[place as usize], place + 1));
     }
-    Host::Gone
+    None
 }
 
-// The host of a further attempt.
-pub(super) fn next_host(own: u16, hosts: Hosts, place: u8) -> Host
+// The host of a further attempt, with the place of the next.
+pub(super) fn next_host(own: u16, hosts: Hosts, place: u8) -> Option<(u16, u8)>
     ensures { result ≡ next_host own hosts place }
 {
     match hosts {
         Hosts::Candidates => host_at(own, place),
-        Hosts::Named(_) => Host::Gone,
-        Hosts::Own => Host::Gone,
+        Hosts::Named(_) | Hosts::Own => None,
     }
 }

@@ -3,14 +3,12 @@
 ghost use Rattle.std.specs.Prelude.{◌≡◌};
 ghost use Rattle.motor.specs.engine.Script.{signed_in, aim_at, is_mode, get_parameter, mode_off, try_in, try_again, first_read, back_read, ensure_acked, ensure_lost};
 ghost use Rattle.motor.specs.declared.engine.node.Got.TheVariants as got;
-ghost use Rattle.motor.specs.declared.engine.kinds.SignedIn.TheVariants as signed;
 
-use crate::engine::kinds::{SignedIn, signed_in};
+use crate::engine::kinds::signed_in;
+use crate::engine::node::Acknowledgement::Status;
 use crate::engine::node::{Acked, Aim, Ensure, Got, Node, Request};
-use crate::engine::script::{
-    failed_by_silence, finished, get_parameter, send_with_status_ack, set_mode,
-};
-use codec::error::{LastMode, Refusal};
+use crate::engine::script::{failed_by_silence, finished, get_parameter, send_with_ack, set_mode};
+use codec::error::Refusal;
 use codec::protocol::ParameterValue;
 use codec::registers::{ControlMode, ParameterId};
 
@@ -28,24 +26,25 @@ pub(super) fn ensure_begins(mode: ControlMode, timeout: u64) -> Node
         mode,
         timeout,
         left: ATTEMPTS,
-        actual: LastMode::Unread,
+        actual: None,
     };
     get_parameter(ParameterId::MODE, timeout, Got::EnsureFirst(aim))
 }
 
 // The value read is the mode aimed at.
+#[tactic(auto, unfolding(crate::specs::engine::Script::is_mode))]
 fn is_mode(aim: Aim, number: i8) -> bool
     ensures { result ≡ is_mode aim number }
 {
-    let mode = aim.mode;
-    number == ControlMode::number(mode)
+    number == aim.mode.number()
 }
 
 // The motor is switched off.
 pub(super) fn mode_off(aim: Aim) -> Node
     ensures { result ≡ mode_off aim }
 {
-    send_with_status_ack(Request::Disable, 240, Acked::Ensure(Ensure::Off, aim))
+    let then = Acked::Ensure(Ensure::Off, aim);
+    send_with_ack(Status, Request::Disable, 240, then)
 }
 
 // A pause, then the next attempt.
@@ -59,56 +58,38 @@ pub(super) fn try_again(aim: Aim) -> Node
 fn mode_try(aim: Aim) -> Node
     ensures { result ≡ try_in aim.left aim }
 {
-    let mode = aim.mode;
-    let actual = aim.actual;
     if aim.left == 0 {
-        return Node::Fail(Refusal::ModeNotReached(actual));
+        return Node::Fail(Refusal::ModeNotReached(aim.actual));
     }
     let next = Aim {
-        mode,
-        timeout: aim.timeout,
         left: aim.left - 1,
-        actual,
+        ..aim
     };
-    set_mode(mode, Acked::Ensure(Ensure::Written, next))
+    set_mode(aim.mode, Acked::Ensure(Ensure::Written, next))
 }
 
 // The first reading: it is the mode, or the motor is switched off.
 pub(super) fn first_read(aim: Aim, reading: ParameterValue) -> Node
     ensures { result ≡ first_read aim (signed_in reading) }
 {
-    let SignedIn::Signed(number) = signed_in(reading) else {
-        return mode_off(aim);
-    };
-    if is_mode(aim, number) {
-        return finished();
+    match signed_in(reading) {
+        Some(number) if is_mode(aim, number) => finished(),
+        _ => mode_off(aim),
     }
-    mode_off(aim)
 }
 
-// A value read after a mode write: it is the mode, or it is kept as the last.
-fn after_read(aim: Aim, number: i8) -> Node
-    ensures { result ≡ back_read aim (signed.Signed number) }
-{
-    if is_mode(aim, number) {
-        return finished();
-    }
-    let mode = aim.mode;
-    try_again(Aim {
-        mode,
-        timeout: aim.timeout,
-        left: aim.left,
-        actual: LastMode::Read(number),
-    })
-}
-
+// A reading after a mode write: it is the mode, or it is kept as the last, if it is of the kind.
 pub(super) fn back_read(aim: Aim, reading: ParameterValue) -> Node
     ensures { result ≡ back_read aim (signed_in reading) }
 {
-    let SignedIn::Signed(number) = signed_in(reading) else {
-        return try_again(aim);
-    };
-    after_read(aim, number)
+    match signed_in(reading) {
+        Some(number) if is_mode(aim, number) => finished(),
+        Some(number) => try_again(Aim {
+            actual: Some(number),
+            ..aim
+        }),
+        None => try_again(aim),
+    }
 }
 
 // What follows each stage's acknowledgement, or its pause.
@@ -129,8 +110,7 @@ pub(super) fn ensure_lost(stage: Ensure, aim: Aim) -> Node
 {
     match stage {
         Ensure::Off => Node::Pause(AFTER_DISABLE, Acked::Ensure(Ensure::Try, aim)),
-        Ensure::Try => failed_by_silence(),
         Ensure::Written => try_again(aim),
-        Ensure::Back => failed_by_silence(),
+        Ensure::Try | Ensure::Back => failed_by_silence(),
     }
 }

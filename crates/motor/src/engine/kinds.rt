@@ -1,46 +1,32 @@
-// A reading as a value of one kind, and the reads that ask for a kind.
+// A reading as a value of one kind.
 ghost use Rattle.std.specs.Prelude.{◌≡◌};
-ghost use Rattle.motor.specs.declared.engine.command.Outcome.TheVariants as outcome;
-ghost use Rattle.motor.specs.declared.engine.node.Node.TheVariants as node;
-ghost use Rattle.motor.specs.engine.Script.{signed_in, float_in, as_flag, as_signed, as_float, as_mode};
+ghost use Rattle.codec.specs.declared.registers.ControlMode.{ControlMode};
+ghost use Rattle.motor.specs.declared.engine.node.Node.{Node};
+ghost use Rattle.motor.specs.engine.Script.{signed_in, float_in, as_flag, as_mode};
 
 use crate::engine::command::Outcome;
 use crate::engine::node::Node;
 use crate::engine::script::{failed_by_kind, failed_by_mode};
 use codec::protocol::ParameterValue;
-use codec::registers::{ControlMode, ModeRead};
+use codec::registers::ControlMode;
 use codec::word::Word;
 
-// The signed number of a reading, or that it is of another kind.
-#[derive(Clone, Copy)]
-pub enum SignedIn {
-    Signed(i8),
-    Another,
-}
-
-// The float of a reading, or that it is of another kind.
-#[derive(Clone, Copy)]
-pub enum FloatIn {
-    Float(Word),
-    Another,
-}
-
-pub(super) fn signed_in(reading: ParameterValue) -> SignedIn
+pub(super) fn signed_in(reading: ParameterValue) -> Option<i8>
     ensures { result ≡ signed_in reading }
 {
-    let ParameterValue::I8(v) = reading else {
-        return SignedIn::Another;
-    };
-    SignedIn::Signed(v)
+    match reading {
+        ParameterValue::I8(v) => Some(v),
+        _ => None,
+    }
 }
 
-pub(super) fn float_in(reading: ParameterValue) -> FloatIn
+pub(super) fn float_in(reading: ParameterValue) -> Option<Word>
     ensures { result ≡ float_in reading }
 {
-    let ParameterValue::F32(word) = reading else {
-        return FloatIn::Another;
-    };
-    FloatIn::Float(word)
+    match reading {
+        ParameterValue::F32(word) => Some(word),
+        _ => None,
+    }
 }
 
 // ---- a reading of a kind, or 20
@@ -48,40 +34,20 @@ pub(super) fn float_in(reading: ParameterValue) -> FloatIn
 pub(super) fn as_flag(reading: ParameterValue) -> Node
     ensures { result ≡ as_flag reading }
 {
-    let ParameterValue::U8(flag) = reading else {
-        return failed_by_kind();
-    };
-    Node::Finish(Outcome::Flag(flag))
+    match reading {
+        ParameterValue::U8(flag) => Node::Finish(Outcome::Flag(flag)),
+        _ => failed_by_kind(),
+    }
 }
 
-pub(super) fn as_f32(reading: ParameterValue) -> Node
-    ensures { result ≡ as_float (float_in reading) (λ w. node.Finish (outcome.F32 w)) }
+// What follows a run mode: 20 where the number is of another kind, 17 where it is no mode.
+pub(super) fn as_mode<F: FnOnce(ControlMode) -> Node>(number: Option<i8>, then: F) -> Node
+    requires { F.IsAlwaysCallable then }
+    ensures { (k : ControlMode → Node) → ((m : ControlMode) → (n : Node) → F.post then m n → n ≡ k m) → result ≡ as_mode number k }
 {
-    let FloatIn::Float(word) = float_in(reading) else {
-        return failed_by_kind();
-    };
-    Node::Finish(Outcome::F32(word))
-}
-
-pub(super) fn as_i8(reading: ParameterValue) -> Node
-    ensures { result ≡ as_signed (signed_in reading) (λ n. node.Finish (outcome.I8 n)) }
-{
-    let SignedIn::Signed(number) = signed_in(reading) else {
-        return failed_by_kind();
-    };
-    Node::Finish(Outcome::I8(number))
-}
-
-// ---- get_control_mode
-
-pub(super) fn as_mode(reading: ParameterValue) -> Node
-    ensures { result ≡ as_mode (signed_in reading) (λ m. node.Finish (outcome.Mode m)) }
-{
-    let SignedIn::Signed(number) = signed_in(reading) else {
-        return failed_by_kind();
-    };
-    let ModeRead::Mode(mode) = ControlMode::from_raw(number) else {
-        return failed_by_mode();
-    };
-    Node::Finish(Outcome::Mode(mode))
+    match number.map(ControlMode::from_raw) {
+        Some(Ok(mode)) => then(mode),
+        Some(Err(_)) => failed_by_mode(),
+        None => failed_by_kind(),
+    }
 }

@@ -1,20 +1,16 @@
 // The moves that an operation can make.
-ghost use Rattle.std.specs.Prelude.{◌≡◌, ◌+◌, ◌≤◌};
+ghost use Rattle.std.specs.Prelude.{◌≡◌};
 ghost use Rattle.motor.specs.declared.engine.command.Outcome.TheVariants as outcome;
 ghost use Rattle.motor.specs.declared.engine.operation.Effect.TheVariants as effect;
-ghost use Rattle.motor.specs.Limits.{latest_time};
 ghost use Rattle.motor.specs.engine.Requests.{request_frame, rename_frame};
-ghost use Rattle.motor.specs.engine.Script.{word};
-ghost use Rattle.motor.specs.engine.Run.{no_operation, pausing_until, ended, ended_with, ping_reported, pauses, waits, sent_on, request_of, dropped_by, acknowledgement_count, mark_of, tried, dropped_by_last, motion_sent};
+ghost use Rattle.motor.specs.engine.Run.{no_operation, pausing_until, ended, ended_with, ping_reported, pauses, waits, sent_on, request_of, dropped_by, acknowledgement_count, mark_of, dropped_by_last, motion_sent};
 
 use crate::engine::candidates::Hosts;
 use crate::engine::command::{Outcome, Said};
-use crate::engine::node::{Acked, Acknowledgement, Request, Wait};
+use crate::engine::node::{Acked, Acknowledgement, Request, Targets, Wait};
 use crate::engine::operation::{Effect, Gains, Move, Operation, Phase, Sight};
-use crate::engine::requests::{motion_frame, no_frame, rename_frame, request_frame};
-use crate::engine::version::no_version;
+use crate::engine::requests::{blank_ping, motion_frame, no_frame, rename_frame, request_frame};
 use codec::bus::CanFrame;
-use codec::word::Word;
 
 // Nothing runs.
 pub fn no_operation() -> Operation
@@ -28,7 +24,7 @@ pub fn no_operation() -> Operation
         host: 0,
         candidate: 0,
         mark: 0,
-        answer: no_version(),
+        answer: None,
     }
 }
 
@@ -39,12 +35,7 @@ fn pausing_until(then: Acked, until: u64) -> Operation
     Operation {
         phase: Phase::Pausing(then),
         due: until,
-        window: 0,
-        hosts: Hosts::Candidates,
-        host: 0,
-        candidate: 0,
-        mark: 0,
-        answer: no_version(),
+        ..no_operation()
     }
 }
 
@@ -61,16 +52,20 @@ pub(super) fn ended(said: Said, effect: Effect) -> Move
     }
 }
 
+// What is said, and nothing else.
+pub(super) fn only_said(said: Said) -> Move
+    ensures { result ≡ ended said effect.Nothing }
+{
+    ended(said, Effect::Nothing)
+}
+
 // The operation is over with a last frame.
 pub(super) fn ended_with(outcome: Outcome, frame: CanFrame, effect: Effect) -> Move
     ensures { result ≡ ended_with outcome frame effect }
 {
     Move {
-        said: Said::FinishedWith(outcome),
         frame,
-        result: [0; 8],
-        operation: no_operation(),
-        effect,
+        ..ended(Said::FinishedWith(outcome), effect)
     }
 }
 
@@ -78,15 +73,12 @@ pub(super) fn ended_with(outcome: Outcome, frame: CanFrame, effect: Effect) -> M
 pub(super) fn ping_reported(sight: Sight) -> Move
     ensures { result ≡ ping_reported sight }
 {
-    let held = sight.ping_reply;
-    let reply = held.reply;
+    let reply = sight.ping_reply.unwrap_or(blank_ping());
+    let outcome = Outcome::Ping(reply.device_id, reply.responder_id);
     let payload = reply.payload;
     Move {
-        said: Said::Finished(Outcome::Ping(reply.device_id, reply.responder_id)),
-        frame: no_frame(),
         result: payload,
-        operation: no_operation(),
-        effect: Effect::Nothing,
+        ..only_said(Said::Finished(outcome))
     }
 }
 
@@ -95,11 +87,8 @@ pub(super) fn pauses(then: Acked, until: u64) -> Move
     ensures { result ≡ pauses then until }
 {
     Move {
-        said: Said::Waiting(until),
-        frame: no_frame(),
-        result: [0; 8],
         operation: pausing_until(then, until),
-        effect: Effect::Nothing,
+        ..only_said(Said::Waiting(until))
     }
 }
 
@@ -108,11 +97,8 @@ pub(super) fn waits(operation: Operation) -> Move
     ensures { result ≡ waits operation }
 {
     Move {
-        said: Said::Waiting(operation.due),
-        frame: no_frame(),
-        result: [0; 8],
         operation,
-        effect: Effect::Nothing,
+        ..only_said(Said::Waiting(operation.due))
     }
 }
 
@@ -121,18 +107,16 @@ pub(super) fn sent_on(frame: CanFrame, then: Acked, until: u64) -> Move
     ensures { result ≡ sent_on frame then until }
 {
     Move {
-        said: Said::Sent(until),
         frame,
-        result: [0; 8],
         operation: pausing_until(then, until),
-        effect: Effect::Nothing,
+        ..only_said(Said::Sent(until))
     }
 }
 
 // ---- one attempt of a wait
 
 // What a wait asks.
-fn request_of(wait: Wait) -> Request
+pub(super) fn request_of(wait: Wait) -> Request
     ensures { result ≡ request_of wait }
 {
     match wait {
@@ -144,14 +128,13 @@ fn request_of(wait: Wait) -> Request
 }
 
 // Each send of a read or a ping first drops the old value.
-fn dropped_by(wait: Wait) -> Effect
+pub(super) fn dropped_by(wait: Wait) -> Effect
     ensures { result ≡ dropped_by wait }
 {
     match wait {
-        Wait::Acknowledged(_, _, _) => Effect::Nothing,
         Wait::Value(id, _) => Effect::ForgetReading(id),
         Wait::Ping(_) => Effect::ForgetPing,
-        Wait::Version => Effect::Nothing,
+        Wait::Acknowledged(_, _, _) | Wait::Version => Effect::Nothing,
     }
 }
 
@@ -166,49 +149,12 @@ pub(super) fn count_by(sight: Sight, by: Acknowledgement) -> u64
 }
 
 // That number at this send.
-fn mark_of(sight: Sight, wait: Wait) -> u64
+pub(super) fn mark_of(sight: Sight, wait: Wait) -> u64
     ensures { result ≡ mark_of sight wait }
 {
     match wait {
         Wait::Acknowledged(by, _, _) => count_by(sight, by),
-        Wait::Value(_, _) => 0,
-        Wait::Ping(_) => 0,
-        Wait::Version => 0,
-    }
-}
-
-// The request goes to this host, its window from now on.
-pub(super) fn tried(
-    sight: Sight,
-    now: u64,
-    wait: Wait,
-    window: u32,
-    hosts: Hosts,
-    host: u16,
-    next: u8,
-) -> Move
-    requires { now ≤ latest_time }
-    ensures { result ≡ tried sight now wait window hosts host next }
-{
-    let due = now + window as u64;
-    let frame = request_frame(sight, request_of(wait), host);
-    let mark = mark_of(sight, wait);
-    let effect = dropped_by(wait);
-    Move {
-        said: Said::Sent(due),
-        frame,
-        result: [0; 8],
-        operation: Operation {
-            phase: Phase::Waiting(wait),
-            due,
-            window,
-            hosts,
-            host,
-            candidate: next,
-            mark,
-            answer: no_version(),
-        },
-        effect,
+        Wait::Value(_, _) | Wait::Ping(_) | Wait::Version => 0,
     }
 }
 
@@ -219,17 +165,8 @@ fn dropped_by_last(request: Request) -> Effect
     ensures { result ≡ dropped_by_last request }
 {
     match request {
-        Request::Ping => Effect::Nothing,
-        Request::Enable => Effect::Nothing,
-        Request::Disable => Effect::Nothing,
-        Request::ClearError => Effect::Nothing,
-        Request::SetZeroPosition => Effect::Nothing,
         Request::Read(id) => Effect::ForgetReading(id),
-        Request::Write(_, _) => Effect::Nothing,
-        Request::SaveParameters => Effect::Nothing,
-        Request::ActiveReport(_) => Effect::Nothing,
-        Request::SetProtocol(_) => Effect::Nothing,
-        Request::Version => Effect::Nothing,
+        _ => Effect::Nothing,
     }
 }
 
@@ -241,29 +178,16 @@ pub(super) fn last_request(sight: Sight, request: Request) -> Move
     ended_with(Outcome::Done, frame, dropped_by_last(request))
 }
 
-// A motion command, of the bits of its floats; its gains are held as given.
-pub(super) fn motion_sent(
-    sight: Sight,
-    p: u32,
-    v: u32,
-    kp: u32,
-    kd: u32,
-    t: u32,
-    outcome: Outcome,
-) -> Move
-    ensures { result ≡ motion_sent sight (word p) (word v) (word kp) (word kd) (word t) outcome }
+// A motion command; its gains are held as given.
+pub(super) fn motion_sent(sight: Sight, targets: Targets, outcome: Outcome) -> Move
+    ensures { result ≡ motion_sent sight targets outcome }
 {
-    let kp = Word { bits: kp };
-    let kd = Word { bits: kd };
-    let frame = motion_frame(
-        sight,
-        Word { bits: p },
-        Word { bits: v },
-        kp,
-        kd,
-        Word { bits: t },
-    );
-    ended_with(outcome, frame, Effect::HoldGains(Gains { kp, kd }))
+    let gains = Gains {
+        kp: targets.kp,
+        kd: targets.kd,
+    };
+    let frame = motion_frame(sight, targets);
+    ended_with(outcome, frame, Effect::HoldGains(gains))
 }
 
 // The motor gets another id.

@@ -2,9 +2,10 @@
 // node follows which, `engine` what a node does.
 use crate::engine::candidates::Hosts;
 use crate::engine::command::Outcome;
-use codec::error::{LastMode, Refusal};
+use codec::error::Refusal;
 use codec::protocol::ParameterValue;
 use codec::registers::ControlMode;
+use codec::word::Word;
 
 // What ensure_control_mode is about: the mode, the read's timeout, the attempts left, and the last value read after a mode
 // write.
@@ -13,7 +14,7 @@ pub struct Aim {
     pub mode: ControlMode,
     pub timeout: u64,
     pub left: u8,
-    pub actual: LastMode,
+    pub actual: Option<i8>,
 }
 
 // Where ensure_control_mode stands: the motor off, before an attempt, the mode written, before reading it back.
@@ -25,19 +26,19 @@ pub enum Ensure {
     Back,
 }
 
-// What follows an acknowledgement, or a pause. A float is its word's bits.
+// What follows an acknowledgement, or a pause.
 #[derive(Clone, Copy)]
 pub enum Acked {
     Done,
     FaultCleared,
     ZeroState,
     Stopped(ControlMode),
-    CspEnable(u32, u32),
-    CspLimit(u32, u32),
-    PpEnable(u32, u32, u32),
-    PpVelocity(u32, u32, u32),
-    PpAcceleration(u32, u32),
-    Target(u32),
+    CspEnable(Word, Word),
+    CspLimit(Word, Word),
+    PpEnable(Word, Word, Word),
+    PpVelocity(Word, Word, Word),
+    PpAcceleration(Word, Word),
+    Target(Word),
     Ensure(Ensure, Aim),
 }
 
@@ -95,6 +96,16 @@ pub enum Wait {
     Version,
 }
 
+// What a motion command aims at.
+#[derive(Clone, Copy)]
+pub struct Targets {
+    pub position: Word,
+    pub velocity: Word,
+    pub kp: Word,
+    pub kd: Word,
+    pub torque: Word,
+}
+
 // What an operation does next.
 #[derive(Clone, Copy)]
 pub enum Node {
@@ -106,6 +117,6 @@ pub enum Node {
     Last(Request),
     Write(u16, ParameterValue, Acked),
     Await(Wait, u32, Hosts),
-    Motion(u32, u32, u32, u32, u32, Outcome),
+    Motion(Targets, Outcome),
     Rename(u8),
 }

@@ -15,15 +15,8 @@ pub enum Phase {
     Waiting(Wait),
 }
 
-// The answer that a running get_version has so far, if one came; else zeros.
-#[derive(Clone, Copy)]
-pub struct HeldVersion {
-    pub held: bool,
-    pub reply: VersionReply,
-}
-
 // The running operation: its phase and next due time; of a wait its window, whom it asks, the host of this attempt, the place
-// of the next, the count or sequence at this send, and a get_version's answer. What a phase doesn't use is 0.
+// of the next, the count or sequence at this send, and the answer that a get_version has so far. What a phase doesn't use is 0.
 #[derive(Clone, Copy)]
 pub struct Operation {
     pub phase: Phase,
@@ -33,14 +26,7 @@ pub struct Operation {
     pub host: u16,
     pub candidate: u8,
     pub mark: u64,
-    pub answer: HeldVersion,
-}
-
-// A ping reply, if one is held; else zeros.
-#[derive(Clone, Copy)]
-pub struct HeldPing {
-    pub held: bool,
-    pub reply: PingReply,
+    pub answer: Option<VersionReply>,
 }
 
 // The gains of the last motion command, as given before any clamp; at first 0.
@@ -59,7 +45,7 @@ pub struct Sight {
     pub write_wait: u64,
     pub sequence: u64,
     pub responses: u64,
-    pub ping_reply: HeldPing,
+    pub ping_reply: Option<PingReply>,
     pub gains: Gains,
 }
 

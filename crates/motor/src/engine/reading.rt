@@ -6,10 +6,3 @@ use codec::protocol::ParameterValue;
 pub struct Stored {
     pub value: ParameterValue,
 }
-
-// What is held for a parameter.
-#[derive(Clone, Copy)]
-pub enum Found {
-    Nothing,
-    Held(Stored),
-}

@@ -1,9 +1,10 @@
 // The frames that are sent.
-ghost use Rattle.std.specs.Prelude.{◌≡◌, if◌then◌else◌};
-ghost use Rattle.codec.specs.Replies.{encode_set_protocol};
+ghost use Rattle.std.specs.Prelude.{◌≡◌};
+ghost use Rattle.codec.specs.Numbers.{given_or};
+ghost use Rattle.codec.specs.Replies.{zeros, encode_set_protocol, blank_ping};
 ghost use Rattle.motor.specs.engine.Requests.{request_type, request_payload, frame_to, request_frame, motion_of, motion_frame, rename_frame, no_frame};
 
-use crate::engine::node::Request;
+use crate::engine::node::{Request, Targets};
 use crate::engine::operation::Sight;
 use codec::bus::CanFrame;
 use codec::model::limits_of;
@@ -12,8 +13,8 @@ use codec::protocol::{
     CommunicationType, build_ext_id, encode_parameter_read, encode_parameter_write,
     encode_set_protocol,
 };
-use codec::replies::encode_version_request;
-use codec::word::{Word, value};
+use codec::replies::{PingReply, encode_version_request};
+use codec::word::value;
 
 // The communication type of a request.
 fn request_type(request: Request) -> u32
@@ -34,40 +35,18 @@ fn request_type(request: Request) -> u32
     }
 }
 
-// 1 or 0.
-fn switch(on: bool) -> u8
-    ensures { result ≡ (if on then 1 else 0) }
-{
-    if on {
-        return 1;
-    }
-    0
-}
-
-// The payload of a protocol command.
-fn protocol_payload(protocol_cmd: u8) -> [u8; 8]
-    ensures { result ≡ (encode_set_protocol protocol_cmd).payload }
-{
-    let set = encode_set_protocol(protocol_cmd);
-    let payload = set.payload;
-    payload
-}
-
 // The payload of a request.
 fn request_payload(request: Request) -> [u8; 8]
     ensures { result ≡ request_payload request }
 {
     match request {
-        Request::Ping => [0; 8],
-        Request::Enable => [0; 8],
-        Request::Disable => [0; 8],
-        Request::ClearError => [1, 0, 0, 0, 0, 0, 0, 0],
-        Request::SetZeroPosition => [1, 0, 0, 0, 0, 0, 0, 0],
+        Request::Ping | Request::Enable | Request::Disable => [0; 8],
+        Request::ClearError | Request::SetZeroPosition => [1, 0, 0, 0, 0, 0, 0, 0],
         Request::Read(id) => encode_parameter_read(id),
         Request::Write(id, raw) => encode_parameter_write(id, raw),
         Request::SaveParameters => [1, 2, 3, 4, 5, 6, 7, 8],
-        Request::ActiveReport(on) => [1, 2, 3, 4, 5, 6, switch(on), 0],
-        Request::SetProtocol(protocol) => protocol_payload(protocol),
+        Request::ActiveReport(on) => [1, 2, 3, 4, 5, 6, u8::from(on), 0],
+        Request::SetProtocol(protocol) => encode_set_protocol(protocol).unwrap_or([0; 8]),
         Request::Version => encode_version_request(),
     }
 }
@@ -95,26 +74,17 @@ pub(super) fn request_frame(sight: Sight, request: Request, host: u16) -> CanFra
     frame_to(sight, comm_type, host, payload)
 }
 
-// The motion command of five words.
-pub(super) fn motion_frame(
-    sight: Sight,
-    position: Word,
-    velocity: Word,
-    kp: Word,
-    kd: Word,
-    torque: Word,
-) -> CanFrame
-    ensures { result ≡ motion_frame sight (motion_of sight position velocity kp kd torque) }
+// A motion command.
+pub(super) fn motion_frame(sight: Sight, targets: Targets) -> CanFrame
+    ensures { result ≡ motion_frame sight (motion_of sight targets) }
 {
-    let model = sight.model;
-    let limits = limits_of(model);
     let c = encode_mit_command(
-        value(position),
-        value(velocity),
-        value(kp),
-        value(kd),
-        value(torque),
-        limits,
+        value(targets.position),
+        value(targets.velocity),
+        value(targets.kp),
+        value(targets.kd),
+        value(targets.torque),
+        limits_of(sight.model),
     );
     let payload = c.payload;
     frame_to(
@@ -125,12 +95,22 @@ pub(super) fn motion_frame(
     )
 }
 
+// What stands for a ping reply where none is held.
+pub(super) fn blank_ping() -> PingReply
+    ensures { result ≡ blank_ping }
+{
+    PingReply {
+        device_id: 0,
+        responder_id: 0,
+        payload: [0; 8],
+    }
+}
+
 // The frame that gives a motor another id, with the payload of its ping reply.
 pub(super) fn rename_frame(sight: Sight, new_id: u8) -> CanFrame
     ensures { result ≡ rename_frame sight new_id }
 {
-    let held = sight.ping_reply;
-    let reply = held.reply;
+    let reply = sight.ping_reply.unwrap_or(blank_ping());
     let payload = reply.payload;
     let extra = ((new_id as u16) << 8) | (sight.feedback_id & 0xFF);
     frame_to(sight, CommunicationType::SET_DEVICE_ID, extra, payload)

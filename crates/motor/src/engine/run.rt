@@ -3,235 +3,234 @@ ghost use Rattle.std.specs.Prelude.{◌≡◌, ◌≤◌};
 ghost use Rattle.motor.specs.Limits.{latest_time};
 ghost use Rattle.motor.specs.engine.Operations.{acked_of};
 ghost use Rattle.codec.specs.Values.{encode_parameter_value};
-ghost use Rattle.motor.specs.engine.Run.{after_node, send_then, awaited, looked_pause, write_raw, write, entered, retried, looked_ack, looked_value, looked_ping, looked_version, looked, advanced, begun_by, too_late, in_time};
+ghost use Rattle.motor.specs.engine.Run.{tried, send_then, awaited, looked_pause, waits, write_raw, write, entered, retried, timed, looked_ack, looked_value, looked_ping, looked_version, looked, advanced, begun_by, too_late, in_time};
 
-use crate::engine::candidates::{Host, Hosts, first_host, next_host};
+use crate::engine::candidates::{Hosts, first_host, next_host};
 use crate::engine::command::{Command, Outcome, Said};
 use crate::engine::moves::{
-    count_by, ended, ended_with, last_request, motion_sent, pauses, ping_reported, renamed,
-    sent_on, tried, waits,
+    count_by, dropped_by, ended, ended_with, last_request, mark_of, motion_sent, only_said, pauses,
+    ping_reported, renamed, request_of, sent_on, waits,
 };
 use crate::engine::node::{Acked, Acknowledgement, Got, Node, Pinged, Request, Wait};
 use crate::engine::operation::{Effect, Move, Operation, Phase, Sight};
 use crate::engine::operations::{acked, begins_with, got_ping, got_value, windows_gone};
-use crate::engine::reading::Found;
+use crate::engine::reading::Stored;
 use crate::engine::requests::request_frame;
 use crate::engine::script::window_of;
 use crate::engine::version::version_reported;
 use crate::limits::LATEST;
 use codec::bus::CanFrame;
 use codec::error::Refusal;
-use codec::protocol::{EncodedValue, ParameterValue, encode_parameter_value};
+use codec::protocol::{ParameterValue, encode_parameter_value};
+
+// What a move is made on: a motor as its operation sees it, at a time that a call may give.
+#[derive(Clone, Copy)]
+struct Turn {
+    sight: Sight,
+    time: u64,
+    ghost not_late: { time ≤ latest_time },
+}
 
 // ---- a node is entered
 
-// What follows a frame that nothing waits for: it ends, it pauses, or it goes on at once.
-#[derive(Clone, Copy)]
-pub enum AfterNode {
-    Ends(Outcome),
-    Pauses(u32, Acked),
-    Goes,
-}
-
-fn after_node(node: Node) -> AfterNode
-    ensures { result ≡ after_node node }
-{
-    match node {
-        Node::Finish(outcome) => AfterNode::Ends(outcome),
-        Node::Pause(time, then) => AfterNode::Pauses(time, then),
-        _ => AfterNode::Goes,
+impl Turn {
+    // The request goes to this host, its window from now on.
+    fn tried(self, wait: Wait, window: u32, hosts: Hosts, host: u16, next: u8) -> Move
+        ensures { result ≡ tried self.sight self.time wait window hosts host next }
+    {
+        let due = self.time + window as u64;
+        let frame = request_frame(self.sight, request_of(wait), host);
+        let mark = mark_of(self.sight, wait);
+        let effect = dropped_by(wait);
+        Move {
+            said: Said::Sent(due),
+            frame,
+            result: [0; 8],
+            operation: Operation {
+                phase: Phase::Waiting(wait),
+                due,
+                window,
+                hosts,
+                host,
+                candidate: next,
+                mark,
+                answer: None,
+            },
+            effect,
+        }
     }
-}
 
-// A frame that nothing waits for: with finished, with a pause that begins in this step, or what follows is due at once.
-fn sent_then(now: u64, frame: CanFrame, then: Acked) -> Move
-    requires { now ≤ latest_time }
-    ensures { result ≡ send_then now frame then (after_node (acked_of then)) }
-{
-    match after_node(acked(then)) {
-        AfterNode::Ends(outcome) => return ended_with(outcome, frame, Effect::Nothing),
-        AfterNode::Pauses(time, next) => return sent_on(frame, next, now + time as u64),
-        AfterNode::Goes => return sent_on(frame, then, now),
+    // A frame that nothing waits for: with finished, with a pause that begins in this step, or what follows is due at once.
+    fn sent_then(self, frame: CanFrame, then: Acked) -> Move
+        ensures { result ≡ send_then self.time frame then (acked_of then) }
+    {
+        match acked(then) {
+            Node::Finish(outcome) => ended_with(outcome, frame, Effect::Nothing),
+            Node::Pause(time, next) => sent_on(frame, next, self.time + time as u64),
+            _ => sent_on(frame, then, self.time),
+        }
     }
-}
 
-// A write's frame: acknowledged by a status where the motor has a write wait.
-fn write_raw(sight: Sight, now: u64, request: Request, then: Acked) -> Move
-    requires { now ≤ latest_time }
-    ensures { result ≡ write_raw sight now request then }
-{
-    let own = sight.feedback_id;
-    if sight.write_wait == 0 {
-        let frame = request_frame(sight, request, own);
-        return sent_then(now, frame, then);
+    // A write's frame: acknowledged by a status where the motor has a write wait.
+    fn write_raw(self, request: Request, then: Acked) -> Move
+        ensures { result ≡ write_raw self.sight self.time request then }
+    {
+        let sight = self.sight;
+        let own = sight.feedback_id;
+        if sight.write_wait == 0 {
+            return self.sent_then(request_frame(sight, request, own), then);
+        }
+        let window = window_of(sight.write_wait, 120);
+        let wait = Wait::Acknowledged(Acknowledgement::Status, request, then);
+        self.tried(wait, window, Hosts::Candidates, own, 1)
     }
-    let window = window_of(sight.write_wait, 120);
-    let wait = Wait::Acknowledged(Acknowledgement::Status, request, then);
-    tried(sight, now, wait, window, Hosts::Candidates, own, 1)
-}
 
-// A write, through the encoder.
-fn written(sight: Sight, now: u64, param_id: u16, value: ParameterValue, then: Acked) -> Move
-    requires { now ≤ latest_time }
-    ensures { result ≡ write sight now param_id then (encode_parameter_value param_id value) }
-{
-    let raw = match encode_parameter_value(param_id, value) {
-        EncodedValue::Raw(raw) => raw,
-        EncodedValue::Refused(refusal) => return ended(Said::Refused(refusal), Effect::Nothing),
-    };
-    write_raw(sight, now, Request::Write(param_id, raw), then)
-}
+    // A write, through the encoder.
+    fn written(self, param_id: u16, value: ParameterValue, then: Acked) -> Move
+        ensures { result ≡ write self.sight self.time param_id then (encode_parameter_value param_id value) }
+    {
+        match encode_parameter_value(param_id, value) {
+            Ok(raw) => self.write_raw(Request::Write(param_id, raw), then),
+            Err(refusal) => only_said(Said::Refused(refusal)),
+        }
+    }
 
-// A wait begins, at its first host.
-fn awaited(sight: Sight, now: u64, wait: Wait, window: u32, hosts: Hosts) -> Move
-    requires { now ≤ latest_time }
-    ensures { result ≡ awaited sight now wait window hosts }
-{
-    let host = first_host(sight.feedback_id, hosts);
-    tried(sight, now, wait, window, hosts, host, 1)
-}
+    // A wait begins, at its first host.
+    fn awaited(self, wait: Wait, window: u32, hosts: Hosts) -> Move
+        ensures { result ≡ awaited self.sight self.time wait window hosts }
+    {
+        let host = first_host(self.sight.feedback_id, hosts);
+        self.tried(wait, window, hosts, host, 1)
+    }
 
-pub(super) fn entered(sight: Sight, now: u64, node: Node) -> Move
-    requires { now ≤ latest_time }
-    ensures { result ≡ entered sight now node }
-{
-    match node {
-        Node::Finish(outcome) => ended(Said::Finished(outcome), Effect::Nothing),
-        Node::Report => ping_reported(sight),
-        Node::ClearFault => ended(Said::Finished(Outcome::Done), Effect::ForgetFault),
-        Node::Fail(refusal) => ended(Said::Refused(refusal), Effect::Nothing),
-        Node::Pause(time, then) => pauses(then, now + time as u64),
-        Node::Last(request) => last_request(sight, request),
-        Node::Write(id, value, then) => written(sight, now, id, value, then),
-        Node::Await(wait, window, hosts) => awaited(sight, now, wait, window, hosts),
-        Node::Motion(p, v, kp, kd, t, outcome) => motion_sent(sight, p, v, kp, kd, t, outcome),
-        Node::Rename(new_id) => renamed(sight, new_id),
+    fn entered(self, node: Node) -> Move
+        ensures { result ≡ entered self.sight self.time node }
+    {
+        let sight = self.sight;
+        match node {
+            Node::Finish(outcome) => only_said(Said::Finished(outcome)),
+            Node::Report => ping_reported(sight),
+            Node::ClearFault => ended(Said::Finished(Outcome::Done), Effect::ForgetFault),
+            Node::Fail(refusal) => only_said(Said::Refused(refusal)),
+            Node::Pause(time, then) => pauses(then, self.time + time as u64),
+            Node::Last(request) => last_request(sight, request),
+            Node::Write(id, value, then) => self.written(id, value, then),
+            Node::Await(wait, window, hosts) => self.awaited(wait, window, hosts),
+            Node::Motion(targets, outcome) => motion_sent(sight, targets, outcome),
+            Node::Rename(new_id) => renamed(sight, new_id),
+        }
     }
 }
 
 // ---- a step
 
-// The window is gone: the next host, if there is one.
-fn retried(sight: Sight, now: u64, operation: Operation, wait: Wait) -> Move
-    requires { now ≤ latest_time }
-    ensures { result ≡ retried sight now operation wait }
-{
-    let hosts = operation.hosts;
-    let Host::At(host, next) = next_host(sight.feedback_id, hosts, operation.candidate) else {
-        return entered(sight, now, windows_gone(wait));
-    };
-    tried(sight, now, wait, operation.window, hosts, host, next)
-}
-
-// An acknowledgement: the deadline first.
-fn looked_ack(
-    sight: Sight,
-    now: u64,
-    operation: Operation,
-    by: Acknowledgement,
-    request: Request,
-    then: Acked,
-) -> Move
-    requires { now ≤ latest_time }
-    ensures { result ≡ looked_ack sight now operation by request then }
-{
-    if now >= operation.due {
-        return retried(sight, now, operation, Wait::Acknowledged(by, request, then));
+impl Turn {
+    // The window is gone: the next host, if there is one.
+    fn retried(self, operation: Operation, wait: Wait) -> Move
+        ensures { result ≡ retried self.sight self.time operation wait }
+    {
+        let hosts = operation.hosts;
+        match next_host(self.sight.feedback_id, hosts, operation.candidate) {
+            Some((host, next)) => self.tried(wait, operation.window, hosts, host, next),
+            None => self.entered(windows_gone(wait)),
+        }
     }
-    if operation.mark < count_by(sight, by) {
-        return entered(sight, now, acked(then));
-    }
-    waits(operation)
-}
 
-// A read: the value first, then the deadline.
-fn looked_value(
-    sight: Sight,
-    now: u64,
-    operation: Operation,
-    param_id: u16,
-    then: Got,
-    found: Found,
-) -> Move
-    requires { now ≤ latest_time }
-    ensures { result ≡ looked_value sight now operation param_id then found }
-{
-    let Found::Held(stored) = found else {
-        if now < operation.due {
+    // Nothing has come: still waiting within the window.
+    fn timed(self, operation: Operation, wait: Wait) -> Move
+        ensures { result ≡ timed self.sight self.time operation wait (waits operation) }
+    {
+        if self.time < operation.due {
             return waits(operation);
         }
-        return retried(sight, now, operation, Wait::Value(param_id, then));
-    };
-    let value = stored.value;
-    entered(sight, now, got_value(sight, then, value))
-}
+        self.retried(operation, wait)
+    }
 
-// A ping likewise.
-fn looked_ping(sight: Sight, now: u64, operation: Operation, then: Pinged) -> Move
-    requires { now ≤ latest_time }
-    ensures { result ≡ looked_ping sight now operation then }
-{
-    let ping = sight.ping_reply;
-    if ping.held {
-        return entered(sight, now, got_ping(then));
+    // An acknowledgement: the deadline first.
+    fn looked_ack(
+        self,
+        operation: Operation,
+        by: Acknowledgement,
+        request: Request,
+        then: Acked,
+    ) -> Move
+        ensures { result ≡ looked_ack self.sight self.time operation by request then }
+    {
+        if self.time >= operation.due {
+            return self.retried(operation, Wait::Acknowledged(by, request, then));
+        }
+        if operation.mark < count_by(self.sight, by) {
+            return self.entered(acked(then));
+        }
+        waits(operation)
     }
-    if now < operation.due {
-        return waits(operation);
-    }
-    retried(sight, now, operation, Wait::Ping(then))
-}
 
-// A version likewise: the answer first, then the deadline.
-fn looked_version(sight: Sight, now: u64, operation: Operation) -> Move
-    requires { now ≤ latest_time }
-    ensures { result ≡ looked_version sight now operation }
-{
-    let answer = operation.answer;
-    if answer.held {
-        let reply = answer.reply;
-        return version_reported(reply);
+    // A read: the value first, then the deadline.
+    fn looked_value(
+        self,
+        operation: Operation,
+        param_id: u16,
+        then: Got,
+        found: Option<Stored>,
+    ) -> Move
+        ensures { result ≡ looked_value self.sight self.time operation param_id then found }
+    {
+        match found {
+            Some(stored) => self.entered(got_value(self.sight, then, stored.value)),
+            None => self.timed(operation, Wait::Value(param_id, then)),
+        }
     }
-    if now < operation.due {
-        return waits(operation);
-    }
-    retried(sight, now, operation, Wait::Version)
-}
 
-fn looked(sight: Sight, now: u64, operation: Operation, found: Found, wait: Wait) -> Move
-    requires { now ≤ latest_time }
-    ensures { result ≡ looked sight now operation found wait }
-{
-    match wait {
-        Wait::Acknowledged(by, request, then) => return looked_ack(
-            sight, now, operation, by, request, then,
-        ),
-        Wait::Value(id, then) => return looked_value(sight, now, operation, id, then, found),
-        Wait::Ping(then) => return looked_ping(sight, now, operation, then),
-        Wait::Version => return looked_version(sight, now, operation),
+    // A ping likewise.
+    fn looked_ping(self, operation: Operation, then: Pinged) -> Move
+        ensures { result ≡ looked_ping self.sight self.time operation then }
+    {
+        if self.sight.ping_reply.is_some() {
+            return self.entered(got_ping(then));
+        }
+        self.timed(operation, Wait::Ping(then))
     }
-}
 
-// What follows a pause, once it has ended.
-fn looked_pause(sight: Sight, now: u64, operation: Operation, then: Acked) -> Move
-    requires { now ≤ latest_time }
-    ensures { result ≡ looked_pause sight now operation then }
-{
-    if now < operation.due {
-        return waits(operation);
+    // A version likewise: the answer first, then the deadline.
+    fn looked_version(self, operation: Operation) -> Move
+        ensures { result ≡ looked_version self.sight self.time operation }
+    {
+        match operation.answer {
+            Some(reply) => version_reported(reply),
+            None => self.timed(operation, Wait::Version),
+        }
     }
-    entered(sight, now, acked(then))
-}
 
-// What a step does.
-fn advanced(sight: Sight, now: u64, operation: Operation, found: Found) -> Move
-    requires { now ≤ latest_time }
-    ensures { result ≡ advanced sight now operation found operation.phase }
-{
-    let phase = operation.phase;
-    match phase {
-        Phase::Idle => return ended(Said::Refused(Refusal::NothingRunning), Effect::Nothing),
-        Phase::Pausing(then) => return looked_pause(sight, now, operation, then),
-        Phase::Waiting(wait) => return looked(sight, now, operation, found, wait),
+    fn looked(self, operation: Operation, found: Option<Stored>, wait: Wait) -> Move
+        ensures { result ≡ looked self.sight self.time operation found wait }
+    {
+        match wait {
+            Wait::Acknowledged(by, request, then) => self.looked_ack(operation, by, request, then),
+            Wait::Value(id, then) => self.looked_value(operation, id, then, found),
+            Wait::Ping(then) => self.looked_ping(operation, then),
+            Wait::Version => self.looked_version(operation),
+        }
+    }
+
+    // What follows a pause, once it has ended.
+    fn looked_pause(self, operation: Operation, then: Acked) -> Move
+        ensures { result ≡ looked_pause self.sight self.time operation then }
+    {
+        if self.time < operation.due {
+            return waits(operation);
+        }
+        self.entered(acked(then))
+    }
+
+    // What a step does.
+    fn advanced(self, operation: Operation, found: Option<Stored>) -> Move
+        ensures { result ≡ advanced self.sight self.time operation found operation.phase }
+    {
+        match operation.phase {
+            Phase::Idle => only_said(Said::Refused(Refusal::NothingRunning)),
+            Phase::Pausing(then) => self.looked_pause(operation, then),
+            Phase::Waiting(wait) => self.looked(operation, found, wait),
+        }
     }
 }
 
@@ -241,7 +240,7 @@ fn advanced(sight: Sight, now: u64, operation: Operation, found: Found) -> Move
 fn too_late() -> Move
     ensures { result ≡ too_late }
 {
-    ended(Said::Refused(Refusal::TimeOutOfRange), Effect::Nothing)
+    only_said(Said::Refused(Refusal::TimeOutOfRange))
 }
 
 // A start's move.
@@ -251,15 +250,15 @@ pub fn begin_at(sight: Sight, now: u64, command: Command) -> Move
     if now > LATEST {
         return too_late();
     }
-    entered(sight, now, begins_with(command))
+    Turn { sight, time: now }.entered(begins_with(command))
 }
 
 // A step's move.
-pub fn advance_at(sight: Sight, now: u64, operation: Operation, found: Found) -> Move
+pub fn advance_at(sight: Sight, now: u64, operation: Operation, found: Option<Stored>) -> Move
     ensures { result ≡ in_time now (advanced sight now operation found operation.phase) }
 {
     if now > LATEST {
         return too_late();
     }
-    advanced(sight, now, operation, found)
+    Turn { sight, time: now }.advanced(operation, found)
 }

@@ -2,8 +2,10 @@
 ghost use Rattle.std.specs.Prelude.{◌≡◌};
 ghost use Rattle.codec.specs.declared.error.Refusal.TheVariants as refusal;
 ghost use Rattle.codec.specs.declared.protocol.ParameterValue.TheVariants as value;
+ghost use Rattle.motor.specs.declared.engine.candidates.Hosts.TheVariants as hosts;
 ghost use Rattle.motor.specs.declared.engine.node.Node.TheVariants as node;
-ghost use Rattle.motor.specs.engine.Script.{window_of, finished, failed_by_silence, send_with_status_ack, send_with_response_ack, get_parameter, put, set_mode, ping_each};
+ghost use Rattle.motor.specs.declared.engine.node.Wait.TheVariants as wait;
+ghost use Rattle.motor.specs.engine.Script.{window_of, finished, failed_by_silence, get_parameter, put, set_mode, ping_each};
 
 use crate::engine::candidates::Hosts;
 use crate::engine::command::Outcome;
@@ -55,20 +57,19 @@ pub(super) fn finished() -> Node
     Node::Finish(Outcome::Done)
 }
 
-// A request to each candidate, acknowledged by a status.
-pub(super) fn send_with_status_ack(request: Request, window: u32, then: Acked) -> Node
-    ensures { result ≡ send_with_status_ack request window then }
+// A request to each candidate, until it is acknowledged.
+pub(super) fn send_with_ack(by: Acknowledgement, request: Request, window: u32, then: Acked) -> Node
+    ensures { result ≡ node.Await (wait.Acknowledged by request then) window hosts.Candidates }
 {
-    let wait = Wait::Acknowledged(Acknowledgement::Status, request, then);
+    let wait = Wait::Acknowledged(by, request, then);
     Node::Await(wait, window, Hosts::Candidates)
 }
 
-// A request to each candidate, acknowledged by any response.
-pub(super) fn send_with_response_ack(request: Request, window: u32, then: Acked) -> Node
-    ensures { result ≡ send_with_response_ack request window then }
+// A request to one named host, once, with the timeout as given.
+pub(super) fn once(wait: Wait, host_id: u16, timeout: u64) -> Node
+    ensures { result ≡ node.Await wait (window_of timeout 0) (hosts.Named host_id) }
 {
-    let wait = Wait::Acknowledged(Acknowledgement::Response, request, then);
-    Node::Await(wait, window, Hosts::Candidates)
+    Node::Await(wait, window_of(timeout, 0), Hosts::Named(host_id))
 }
 
 // A read to each candidate.
@@ -98,6 +99,5 @@ pub(super) fn write_float(param_id: u16, word: Word, then: Acked) -> Node
 pub(super) fn set_mode(mode: ControlMode, then: Acked) -> Node
     ensures { result ≡ set_mode mode then }
 {
-    let number = ControlMode::number(mode);
-    Node::Write(ParameterId::MODE, ParameterValue::I8(number), then)
+    Node::Write(ParameterId::MODE, ParameterValue::I8(mode.number()), then)
 }

@@ -2,6 +2,7 @@
 -- contracts have one clause each: the equations say that it is the relation of specs/lent/LentDemands, whatever the model w, the
 -- lifetime k and the references at entry and exit; a clause that is weakened or dropped breaks them. Statements only; Promises says
 -- why they stand here.
+use Rattle.std.specs.Prelude.{Result}
 use Prim.Native.Nat.{ℕ}
 use mathlib.Core.Path.{◌≡◌}
 use mathlib.Core.List.{List}
@@ -12,7 +13,8 @@ use denote.MutBor.{MutBor}
 use Rattle.motor.specs.declared.motor.Motor.{Motor}
 use Rattle.station.specs.declared.call.Asked.{Asked}
 use Rattle.station.specs.declared.call.Replied.{Replied}
-use Rattle.station.specs.declared.station.Looked.{Looked}
+use Rattle.codec.specs.declared.error.Refusal.{Refusal}
+use Rattle.motor.specs.declared.motor.Seen.{Seen}
 use Rattle.station.specs.CodeDemands.{CodeDemand1, CodeDemand2, CodeDemand3}
 use Rattle.station.specs.Definitions.{AsksNothing}
 use Rattle.station.specs.lent.LentDemands.{Calls, Looks, LentGives}
@@ -32,11 +34,11 @@ pub record LentPromises : Type 2 where
   pub called : (w : World) (k : Lfts 1) (m end : MutBor (List Motor)) (a : Asked) (r : Replied)
       → (lent-call.clauses w.𝓛 w.𝓜.mem w.𝓡.run k (m, (a, tt))).ensures tt r (end, (a, tt))
       ≡ fact w.𝓤 (Calls m.now a r end.now)
-  pub looked : (w : World) (k : Lfts 1) (m end : MutBor (List Motor)) (id : ℕ) (r : Looked)
+  pub looked : (w : World) (k : Lfts 1) (m end : MutBor (List Motor)) (id : ℕ) (r : Result Seen Refusal)
       → (lent-look.clauses w.𝓛 w.𝓜.mem w.𝓡.run k (m, (id, tt))).ensures tt r (end, (id, tt))
       ≡ fact w.𝓤 (Looks m.now id r end.now)
   -- a look leaves the places as they were
-  pub look-keeps : (ms zs : List Motor) (id : ℕ) (r : Looked) → Looks ms id r zs → zs ≡ ms
+  pub look-keeps : (ms zs : List Motor) (id : ℕ) (r : Result Seen Refusal) → Looks ms id r zs → zs ≡ ms
 
 pub record LentStationDemands : Type 2 where
   pub promises : LentPromises

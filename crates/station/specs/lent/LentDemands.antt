@@ -1,7 +1,7 @@
 -- What the lent functions promise, as one relation: what a call or a look on a station returns, with the station at exit. Demands 1, 2
 -- and 3 are said of it (CodeDemands), over whole lists of lent calls; lent.LentPromises, beside the proofs, ties it to the contracts.
 -- Definitions only.
-use Rattle.std.specs.Prelude.{ℕ, ◌≡◌, List}
+use Rattle.std.specs.Prelude.{ℕ, ◌≡◌, List, Result}
 use Rattle.codec.specs.declared.bus.CanFrame.{CanFrame}
 use Rattle.motor.specs.declared.motor.Motor.{Motor}
 use Rattle.station.specs.declared.call.Asked.{Asked}
@@ -9,7 +9,8 @@ use Rattle.station.specs.declared.call.Call.{Call}
 use Rattle.station.specs.declared.call.Call.TheVariants as call
 use Rattle.station.specs.declared.call.Replied.{Replied}
 use Rattle.station.specs.declared.station.After.{After}
-use Rattle.station.specs.declared.station.Looked.{Looked}
+use Rattle.codec.specs.declared.error.Refusal.{Refusal}
+use Rattle.motor.specs.declared.motor.Seen.{Seen}
 use Rattle.station.specs.declared.station.Station.{Station}
 use Rattle.station.specs.Stations.{look_in, call_in}
 use Rattle.station.specs.Code.{Out, after, looked}
@@ -19,7 +20,7 @@ use Rattle.station.specs.lent.Lent.{station_of}
 abbrev pub Calls : List Motor → Asked → Replied → List Motor → Type 0
 Calls ms a r zs = (r ≡ (call_in (station_of ms) a).replied) × (station_of zs ≡ (call_in (station_of ms) a).station)
 
-abbrev pub Looks : List Motor → ℕ → Looked → List Motor → Type 0
+abbrev pub Looks : List Motor → ℕ → Result Seen Refusal → List Motor → Type 0
 Looks ms id r zs = (r ≡ look_in (station_of ms) id) × (zs ≡ ms)
 
 abbrev pub CallsFrom : Station → Asked → After → Type 0

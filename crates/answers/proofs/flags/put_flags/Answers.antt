@@ -1,32 +1,24 @@
--- Right because the text put is that of the flags that the loop has passed. The measure is what is left of the names.
-use borrow.Author.Tests.{eq-eqb, ne_eqb, lt-ltb, le-ltb}
-use native.Mathlib.Omega.{arith}
-use native.Mathlib.Numerals.{add-one}
-use mathlib.Core.Path.{◌≡◌}
-use Rattle.text.proofs.Putting.{put-nil, put_then}
-use Rattle.answers.specs.Flags.{flags_text, flags_upto}
-use Rattle.answers.proofs.Shifts.{one_shl}
+use Rattle.std.proofs.Common.{◌≡◌, false, [], length, refl, arith, ◌∙◌}
+use Rattle.text.proofs.Putting.{put_nil, put_then}
+use Rattle.answers.specs.Flags.{named, any_upto, names_upto}
+use Rattle.answers.proofs.Named.{any-more, names-more, names-none, nth-named, length-named}
 use Rattle.answers.proofs.flags.put_flags.Goals as goal
 
-pub returns-then-bits-eq0 : goal.returns-then-bits-eq0
-unfolding flags_text
-returns-then-bits-eq0 c = rw (eq-eqb _ _ c.if-bits-eq0.true) c.put_byte.ensures
+pub loop-set-init : goal.loop-set-init
+unfolding any_upto names_upto
+loop-set-init g c = (rw put_nil, refl)
 
-pub returns-then-n-gt16 : goal.returns-then-n-gt16
-unfolding flags_text
-returns-then-n-gt16 c = rw (ne_eqb _ _ c.if-bits-eq0.false, lt-ltb _ _ c.if-n-gt16.true) (put-nil _ _)
+pub loop-set-preserved : goal.loop-set-preserved
+loop-set-preserved g c =
+    let flags = c.args.flags.now in
+    let i = c.loop-set.set-index in
+    let at = nth-named flags i (false, record { ref_ptr = (0, 0); now = [] }) (omega arith) in
+    (rw (names-more, at) (grind (arith, put_then)), rw (any-more, at) (cc))
 
-pub loop-i-init : goal.loop-i-init
-unfolding flags_upto
-loop-i-init c = (omega arith, put-nil _ _)
-
-pub loop-i-preserved : goal.loop-i-preserved
-unfolding flags_upto
-loop-i-preserved c =
-    (omega arith, rw add-one (put_then c.loop-i.invariant.1 (rw (c.word.ensures, one_shl c.loop-i.i (omega arith)) at c.put_flag-p.ensures)))
-
-pub returns : goal.returns
-unfolding flags_text
-returns c =
-    let e : c.loop-i.i ≡ c.args.n = omega arith in
-    rw (ne_eqb _ _ c.if-bits-eq0.false, le-ltb _ _ c.if-n-gt16.false) (rw e at c.loop-i.invariant.1)
+pub returns-then-not-any : goal.returns-then-not-any
+returns-then-not-any g c =
+    let flags = named c.args.flags.now in
+    let e : c.loop-set.set-index ≡ length flags = omega (arith, length-named c.args.flags.now) in
+    let none : any_upto flags (length flags) ≡ false = rw (← e) (cc) in
+    let no : c.loop-set.out ≡ c.args.out.now = c.loop-set.invariant.0 ∙ rw (e, names-none flags (length flags) none, put_nil) in
+    rw none (rw no at c.put_byte.ensures)

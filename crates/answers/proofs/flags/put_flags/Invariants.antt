@@ -1,11 +1,8 @@
--- Right because the text put is that of the flags that the loop has passed. The measure is what is left of the names.
-use Prim.Native.Nat.{◌-◌, ◌≤◌}
-use Rattle.text.specs.Put.{Put}
-use Rattle.answers.specs.Flags.{flags_upto}
+-- Right because the text put is that of the flags that the loop has passed, and any says whether one of them is set.
+use Rattle.std.proofs.Common.{◌≡◌}
+use Rattle.text.specs.Put.{put}
+use Rattle.answers.specs.Flags.{named, any_upto, names_upto}
 use Rattle.answers.proofs.flags.put_flags.Given as goal
 
-abbrev pub invariant-loop-i : goal.invariant-loop-i
-invariant-loop-i l = (l.i ≤ l.n) × Put l.initial.out l.at (flags_upto l.bits l.names l.i) l.out l.p
-
-abbrev pub decreases-loop-i : goal.decreases-loop-i
-decreases-loop-i l = l.n - l.i
+abbrev pub invariant-loop-set : goal.invariant-loop-set
+invariant-loop-set g l = (l.out ≡ put l.fn.out (names_upto (named l.flags) l.set-index)) × (l.any ≡ any_upto (named l.flags) l.set-index)

@@ -1,8 +1,6 @@
--- Right because each flag stands at its weight.
-use Rattle.answers.specs.Flags.{state_flags_text}
+-- Right because the flags' bits are the definition's.
+use Rattle.answers.proofs.Named.{state_named}
 use Rattle.answers.proofs.flags.put_state_flags.Goals as goal
 
 pub returns : goal.returns
-unfolding state_flags_text
-returns c =
-    rw (c.bit.ensures.0, c.bit-2.ensures.0, c.bit-3.ensures.0, c.bit-4.ensures.0, c.bit-5.ensures.0, c.bit-6.ensures.0) at c.put_flags.ensures
+returns g c = rw (state_named c.args.s) c.put_flags.ensures

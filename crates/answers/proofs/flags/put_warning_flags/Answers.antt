@@ -1,8 +1,6 @@
--- Right because each flag stands at its weight.
-use Rattle.answers.specs.Flags.{warning_flags_text}
+-- Right because the flags' bits are the definition's.
+use Rattle.answers.proofs.Named.{warning_named}
 use Rattle.answers.proofs.flags.put_warning_flags.Goals as goal
 
 pub returns : goal.returns
-unfolding warning_flags_text
-returns c =
-    rw c.bit.ensures.0 at c.put_flags.ensures
+returns g c = rw (warning_named c.args.w) c.put_flags.ensures

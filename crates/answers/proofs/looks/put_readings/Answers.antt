@@ -1,22 +1,18 @@
--- Right because the text put is that of the readings that the loop has passed. The measure is what is left of them.
-use native.Mathlib.Omega.{arith}
-use native.Mathlib.Numerals.{add-one}
-use mathlib.Core.Path.{◌≡◌}
-use Rattle.text.proofs.Putting.{put-nil, put_then}
-use Rattle.answers.specs.Looks.{readings_text, readings_upto}
+use Rattle.std.proofs.Common.{◌≡◌, length-take, min, arith, add-one}
+use Rattle.std.proofs.lemmas.List.{get_or-take}
+use Rattle.motor.specs.Limits.{most_readings}
+use Rattle.motor.specs.Readings.{no_entry}
+use Rattle.text.proofs.Putting.{put_nil, put_then}
+use Rattle.answers.specs.Looks.{readings_upto}
 use Rattle.answers.proofs.looks.put_readings.Goals as goal
 
-pub loop-i-init : goal.loop-i-init
+pub loop-entry-init : goal.loop-entry-init
 unfolding readings_upto
-loop-i-init c = (omega arith, put-nil _ _)
+loop-entry-init g c = rw put_nil
 
-pub loop-i-preserved : goal.loop-i-preserved
+pub loop-entry-preserved : goal.loop-entry-preserved
 unfolding readings_upto
-loop-i-preserved c =
-    (omega arith, rw add-one (put_then c.loop-i.invariant.1 c.put_reading-p.ensures))
+loop-entry-preserved g c = let e = get_or-take c.min-held.result c.args.readings.entries c.loop-entry.entry-index no_entry (omega arith) in rw add-one (grind (arith, put_then, e))
 
 pub returns : goal.returns
-unfolding readings_text
-returns c =
-    let e : c.loop-i.i ≡ c.least-n.result = omega arith in
-    rw (← c.least-n.ensures.0) (rw e at c.loop-i.invariant.1)
+returns g c = let e : c.loop-entry.entry-index ≡ min c.args.readings.count most_readings = omega (arith, length-take c.min-held.result c.args.readings.entries) in cc

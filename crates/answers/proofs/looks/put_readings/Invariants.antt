@@ -1,11 +1,8 @@
--- Right because the text put is that of the readings that the loop has passed. The measure is what is left of them.
-use Prim.Native.Nat.{◌-◌, ◌≤◌}
-use Rattle.text.specs.Put.{Put}
+-- Right because the text put is that of the readings that the loop has passed.
+use Rattle.std.proofs.Common.{◌≡◌}
+use Rattle.text.specs.Put.{put}
 use Rattle.answers.specs.Looks.{readings_upto}
 use Rattle.answers.proofs.looks.put_readings.Given as goal
 
-abbrev pub invariant-loop-i : goal.invariant-loop-i
-invariant-loop-i l = (l.i ≤ l.n) × Put l.initial.out l.at (readings_upto l.entries l.i) l.out l.p
-
-abbrev pub decreases-loop-i : goal.decreases-loop-i
-decreases-loop-i l = l.n - l.i
+abbrev pub invariant-loop-entry : goal.invariant-loop-entry
+invariant-loop-entry g l = l.out ≡ put l.fn.out (readings_upto l.fn.readings.entries l.entry-index)

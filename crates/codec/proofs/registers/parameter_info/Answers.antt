@@ -1,15 +1,10 @@
--- Right because a row that is found names its id's kind, and an id that no row has is unlisted (proofs/KindTable.antt).
-use mathlib.Core.Path.{ap, ◌∙◌}
-use native.Mathlib.Omega.{arith}
-use lib.Bits.{and_mask}
-use lib.ListN.{get_or}
-use Rattle.codec.specs.Kinds.{coded_as}
-use Rattle.codec.proofs.KindTable.{rows, found, missing}
+-- Right because the row that is found tells the kind, and no other id is listed (proofs/ParameterTable.antt).
+use Rattle.std.proofs.Common.{◌≡◌, ◌∙◌, ap, rules}
+use Rattle.std.specs.Option.{option_copied}
+use Rattle.codec.proofs.ParameterTable.{kinds, kind_in_row}
 use Rattle.codec.proofs.registers.parameter_info.Goals as goal
 
-pub returns-then-row-wanted : goal.returns-then-row-wanted
-returns-then-row-wanted c =
-    c.coded_as.ensures ∙ ap coded_as (and_mask (get_or rows c.loop-i.i 0) 8) ∙ found c.loop-i.i c.args.id c.loop-i-test.true c.if-row-wanted.true
-
 pub returns : goal.returns
-returns c = missing c.args.id (λ k h e. c.loop-i.invariant.1 k (omega arith) e)
+returns c =
+    let told : c.map.result ≡ kind_in_row (option_copied c.parameter_row.result) = search rules in
+    told ∙ ap kind_in_row c.parameter_row.ensures ∙ kinds c.args.id

@@ -3,6 +3,6 @@ use mathlib.Core.Path.{refl}
 use lib.Ieee.{of_int, of_bits}
 use Rattle.codec_abi.proofs.values.codec_model_limits.Goals as goal
 
-pub returns-in-Refused : goal.returns-in-Refused
+pub returns-in-Err : goal.returns-in-Err
 unfolding of_int of_bits
-returns-in-Refused c = rw (← c.model_limits.ensures, c.in-Refused.is) (c.number.ensures, refl)
+returns-in-Err c = rw (← c.model_limits.ensures, c.in-Err.is) (c.number.ensures, refl)

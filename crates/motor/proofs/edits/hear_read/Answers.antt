@@ -3,11 +3,11 @@ use Rattle.std.proofs.Common.{refl, arith, eq-eqb, ne_eqb}
 use Rattle.motor.proofs.Editing.{read-heard-at}
 use Rattle.motor.proofs.edits.hear_read.Goals as goal
 
-pub returns-in-Refused : goal.returns-in-Refused
-returns-in-Refused c = let x = c.args in
+pub returns-in-Err : goal.returns-in-Err
+returns-in-Err c = let x = c.args in
     rw (
-      read-heard-at x.m x.frame x.now _ _ _ c.ext_id_parts-parts.ensures c.is_reply-reply.ensures c.frame_admitted-admitted.ensures,
-      c.in-Refused.is,
+      read-heard-at x.m x.frame x.now _ _ _ c.ext_id_parts-parts.ensures c.is_reply-reply.ensures c.frame_admitted.ensures,
+      c.in-Err.is,
       c.read_kept.ensures,
     )
     (refl, omega arith, omega arith)
@@ -15,7 +15,7 @@ returns-in-Refused c = let x = c.args in
 pub returns-then-status-ne0 : goal.returns-then-status-ne0
 returns-then-status-ne0 c = let x = c.args in
     rw (
-      read-heard-at x.m x.frame x.now _ _ _ c.ext_id_parts-parts.ensures c.is_reply-reply.ensures c.frame_admitted-admitted.ensures,
+      read-heard-at x.m x.frame x.now _ _ _ c.ext_id_parts-parts.ensures c.is_reply-reply.ensures c.frame_admitted.ensures,
       c.in_default.is,
       ← c.status_in-status.ensures,
       ne_eqb _ _ c.if-status-ne0.true,
@@ -25,35 +25,16 @@ returns-then-status-ne0 c = let x = c.args in
     )
     (refl, omega arith, omega arith)
 
-pub returns-in-Kept : goal.returns-in-Kept
-returns-in-Kept c = let x = c.args in
+pub returns : goal.returns
+returns c = let x = c.args in
     rw (
-      read-heard-at x.m x.frame x.now _ _ _ c.ext_id_parts-parts.ensures c.is_reply-reply.ensures c.frame_admitted-admitted.ensures,
+      read-heard-at x.m x.frame x.now _ _ _ c.ext_id_parts-parts.ensures c.is_reply-reply.ensures c.frame_admitted.ensures,
       c.in_default.is,
       ← c.status_in-status.ensures,
       eq-eqb _ _ c.if-status-ne0.false,
       ← c.read_id-id.ensures,
       ← c.counted_at-state.ensures,
-      ← c.site_of.ensures.0,
       ← c.read_stored.ensures,
-      ← c.put_edit-result.ensures.0,
-      c.in-Kept.is,
+      ← c.put_edit-put.ensures.is,
     )
-    (refl, c.put_edit-result.ensures.1, c.put_edit-result.ensures.2)
-
-pub returns-in-Full : goal.returns-in-Full
-returns-in-Full c = let x = c.args in
-    rw (
-      read-heard-at x.m x.frame x.now _ _ _ c.ext_id_parts-parts.ensures c.is_reply-reply.ensures c.frame_admitted-admitted.ensures,
-      c.in_default.is,
-      ← c.status_in-status.ensures,
-      eq-eqb _ _ c.if-status-ne0.false,
-      ← c.read_id-id.ensures,
-      ← c.counted_at-state.ensures,
-      ← c.site_of.ensures.0,
-      ← c.read_stored.ensures,
-      ← c.put_edit-result.ensures.0,
-      c.in-Full.is,
-      c.read_kept-in-Full.ensures,
-    )
-    (refl, omega arith, omega arith)
+    (refl, c.put_edit-put.ensures.inside.0, c.put_edit-put.ensures.inside.1)

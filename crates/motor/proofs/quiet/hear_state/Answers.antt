@@ -2,10 +2,10 @@
 use Rattle.motor.proofs.Receiving.{state-heard-by}
 use Rattle.motor.proofs.quiet.hear_state.Goals as goal
 
-pub returns-in-Passed : goal.returns-in-Passed
-returns-in-Passed c = let a = c.args in
-    rw (state-heard-by a.s a.frame a.now, ← c.ext_id_parts-parts.ensures, ← c.is_quiet-quiet.ensures, ← c.frame_admitted.ensures, c.in-Passed.is, ← c.counted_at.ensures, ← c.taken_by.ensures) c.state_heard.ensures
+pub returns-in-Ok : goal.returns-in-Ok
+returns-in-Ok c = let a = c.args in
+    rw (state-heard-by a.s a.frame a.now, ← c.ext_id_parts-parts.ensures, ← c.is_quiet-quiet.ensures, ← c.frame_admitted.ensures, c.in-Ok.is, ← c.counted_at.ensures, ← c.taken_by.ensures)
 
-pub returns-in-Refused : goal.returns-in-Refused
-returns-in-Refused c = let a = c.args in
-    rw (state-heard-by a.s a.frame a.now, ← c.ext_id_parts-parts.ensures, ← c.is_quiet-quiet.ensures, ← c.frame_admitted.ensures, c.in-Refused.is) c.state_heard-in-Refused.ensures
+pub returns-in-Err : goal.returns-in-Err
+returns-in-Err c = let a = c.args in
+    rw (state-heard-by a.s a.frame a.now, ← c.ext_id_parts-parts.ensures, ← c.is_quiet-quiet.ensures, ← c.frame_admitted.ensures, c.in-Err.is)

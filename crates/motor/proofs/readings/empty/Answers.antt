@@ -3,10 +3,9 @@ use Rattle.motor.proofs.FirstChain.{begin, empty-both}
 use Rattle.motor.proofs.readings.empty.Goals as goal
 
 pub loop-i-init : goal.loop-i-init
-loop-i-init c = begin _ c.free_record-last.ensures
+loop-i-init c = begin _ c.free_record-records.ensures
 
-pub returns-clause-is : goal.returns-clause-is
-returns-clause-is c = (empty-both _ _ c.loop-i.invariant c.loop-i-test.false).0
-
-pub returns-clause-means : goal.returns-clause-means
-returns-clause-means c = (empty-both _ _ c.loop-i.invariant c.loop-i-test.false).1
+pub returns : goal.returns
+returns c =
+    let b = empty-both _ _ c.loop-i.invariant c.loop-i-test.false in
+    record { is = b.0; means = b.1 }

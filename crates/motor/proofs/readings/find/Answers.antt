@@ -1,23 +1,11 @@
--- Right because the record that the search gives holds id, or is 0.
-use Rattle.std.proofs.Common.{ap, eq-eqb, ne_eqb}
-use Rattle.motor.specs.declared.engine.reading.Found.TheVariants.{Held}
-use Rattle.motor.specs.declared.readings.Reading.{Reading}
-use Rattle.motor.specs.Readings.{found_at}
+-- Right because the record at the place of id is what is found, where it holds id.
+use Rattle.std.proofs.Common.{◌≡◌, ◌∙◌, rules, option_map}
 use Rattle.motor.proofs.ReadingsClauses.{find-both}
-use Rattle.motor.proofs.Sites.{holder-found, there-found}
+use Rattle.motor.proofs.Sites.{found-held}
 use Rattle.motor.proofs.readings.find.Goals as goal
 
-pub returns-then-holder_in-eq0 : goal.returns-then-holder_in-eq0
-unfolding found_at
-returns-then-holder_in-eq0 c =
-    let b = find-both c.args.rs c.args.id _ (rw (← holder-found _ _ _ _ c.site_of-site.ensures.0 c.holder_in.ensures.0, eq-eqb _ _ c.if-holder_in-eq0.true)) in
-    record { is = b.0; means = b.1 }
-
 pub returns : goal.returns
-unfolding found_at
 returns c =
-    let s = c.site_of-site.ensures.0 in
-    let b = find-both c.args.rs c.args.id _
-    (rw (← holder-found _ _ _ _ s c.holder_in.ensures.0, ne_eqb _ _ c.if-holder_in-eq0.false)
-    (ap (λ (r : Reading). Held r.held) (there-found _ _ _ _ s c.holder_in.ensures.0 c.if-holder_in-eq0.false))) in
+    let m : c.map.result ≡ option_map (λ i. c.site_of-site.result.there.held) c.holder_in.result = search rules in
+    let b = find-both c.args.rs c.args.id _ (m ∙ found-held _ _ _ c.site_of-site.ensures.0 _ c.holder_in.ensures.is) in
     record { is = b.0; means = b.1 }

@@ -1,15 +1,15 @@
--- Right because what is torn is put whole, and that is written; of a read that failed nothing is said to have gone well.
-use Rattle.std.proofs.Common.{ℕ, ◌+◌, ◌-◌, ◌%◌, ◌^◌, List, length, sym, refl, ap, ◌∙◌, subst}
-use Rattle.replay.specs.Program.{Due}
+-- Right because what is torn is put whole, and that is written.
+use Rattle.std.proofs.Common.{◌≡◌, ◌-◌, length, refl, arith}
+use Rattle.replay.specs.Limits.{buffer_size}
 use Rattle.replay.proofs.Keeping.{torn-whole}
 use Rattle.replay.proofs.lines.finish.Goals as goal
 
-pub written-told-requires : goal.written-told-requires
-written-told-requires c =
-    let t = c.put_torn-n in
-    subst (Due c.args.sent) (sym (torn-whole (c.args.end.n - c.args.end.from) t.result c.args.out.now t.new.out c.requires.0 t.ensures)) c.requires.2
+pub written-requires : goal.written-requires
+written-requires c =
+    let size : length c.args.out.now.bytes ≡ buffer_size = omega arith in
+    rw (c.as_bytes.ensures, c.put_torn.ensures, torn-whole (c.args.rest.n - c.args.rest.from) (record { bytes = c.args.out.now.bytes; «at» = 0 }) size refl) c.requires.1
 
 pub returns : goal.returns
 returns c =
-    let t = c.put_torn-n in
-    (refl, λ g. c.written-told.ensures ∙ ap (λ (l : List ℕ). (c.args.sent + length l) % 2 ^ 64) (torn-whole (c.args.end.n - c.args.end.from) t.result c.args.out.now t.new.out c.requires.0 t.ensures), refl)
+    let size : length c.args.out.now.bytes ≡ buffer_size = omega arith in
+    rw (c.in_ok-sent.ensures, c.as_bytes.ensures, c.put_torn.ensures, torn-whole (c.args.rest.n - c.args.rest.from) (record { bytes = c.args.out.now.bytes; «at» = 0 }) size refl)

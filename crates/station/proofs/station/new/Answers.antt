@@ -5,8 +5,8 @@ use Rattle.station.proofs.station.new.Goals as goal
 
 pub returns-clause-is : goal.returns-clause-is
 unfolding new_station
-returns-clause-is c = (new-both _ (rw c.free_motor-m.ensures)).0
+returns-clause-is c = (new-both _ (rw c.free_motor-motors.ensures)).0
 
 pub returns-clause-means : goal.returns-clause-means
 unfolding new_station
-returns-clause-means c = (new-both _ (rw c.free_motor-m.ensures)).1
+returns-clause-means c = (new-both _ (rw c.free_motor-motors.ensures)).1

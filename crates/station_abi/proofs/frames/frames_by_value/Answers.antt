@@ -1,5 +1,4 @@
-use native.Mathlib.Omega.{arith}
-use borrow.Author.Rules.{rules}
+use Rattle.std.proofs.Common.{rules, arith}
 use Rattle.station_abi.proofs.Counting.{passed-small, turn, ends, whole}
 use Rattle.station_abi.proofs.frames.frames_by_value.Goals as goal
 
@@ -12,11 +11,10 @@ pub loop-count-preserved : goal.loop-count-preserved
 loop-count-preserved c =
     let l = passed-small _ _ c.passed-taken.ensures in (
       omega arith,
-      omega arith,
-      turn _ _ _ _ _ _ _ _ _ _ _ _ _ (omega arith) c.next_frame.ensures c.frame-after.ensures.is c.passed-taken.ensures c.next_id-id.ensures c.loop-count.invariant.2,
+      turn _ _ _ _ _ _ _ _ _ _ _ _ _ (omega arith) c.next_frame.ensures c.frame-after.ensures.is c.passed-taken.ensures c.next_id-id.ensures c.loop-count.invariant.1,
     )
 
 pub returns : goal.returns
 returns c =
     whole _ _ _ _ _ _ _ _ c.motors_of-motors.ensures c.last_parameter-parameter.ensures c.loaded-st.ensures
-    (ends _ _ _ _ _ _ _ _ (omega arith) c.loop-count.invariant.2)
+    (ends _ _ _ _ _ _ _ _ (omega arith) c.loop-count.invariant.1)

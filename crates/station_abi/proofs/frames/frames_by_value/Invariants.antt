@@ -6,7 +6,4 @@ use Rattle.station_abi.proofs.frames.frames_by_value.Given as goal
 
 abbrev pub invariant-loop-count : goal.invariant-loop-count
 invariant-loop-count l =
-    (l.count ≤ l.times) × (l.taken ≤ l.count) × (l.taken + taken_from l.motors l.kind l.parameter l.st l.id (l.times - l.count) ≡ taken_from l.motors l.kind l.parameter l.initial.st 1 l.times)
-
-abbrev pub decreases-loop-count : goal.decreases-loop-count
-decreases-loop-count l = l.times - l.count
+    (l.taken ≤ l._count) × (l.taken + taken_from l.motors l.kind l.parameter l.st l.id (l.times - l._count) ≡ taken_from l.motors l.kind l.parameter l.initial.st 1 l.times)

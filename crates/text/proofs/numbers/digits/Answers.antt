@@ -1,30 +1,31 @@
-use Rattle.std.proofs.Common.{◌≡◌, length, sym, ◌∙◌, arith}
-use Rattle.text.proofs.Reading.{over, within, some, none, read_done, read-stop, read-over, read-on}
+use Rattle.std.proofs.Common.{◌≡◌, ◌<◌, length, None, Some, get_or, sym, ◌∙◌, arith}
+use Rattle.std.proofs.lemmas.Bool.Decides.{nat_tests}
+use Rattle.text.specs.Numbers.{digit_of, one_more}
+use Rattle.text.proofs.Reading.{some, none, read_done, read-on}
 use Rattle.text.proofs.numbers.digits.Goals as goal
 
-pub returns-then-w-eq0 : goal.returns-then-w-eq0
-returns-then-w-eq0 c = sym (none _ _ c.if-w-eq0.true)
+pub returns-then-is_empty : goal.returns-then-is_empty
+returns-then-is_empty g c = let e : length c.args.w.now ≡ 0 = grind (arith, nat_tests) in sym (none _ c.args.w.now e)
 
-pub loop-i-init : goal.loop-i-init
-loop-i-init c = (omega arith, some _ _ (omega arith))
+pub loop-b-init : goal.loop-b-init
+loop-b-init g c = let e : 0 < length c.args.w.now = grind (arith, nat_tests) in some _ c.args.w.now e
 
-pub returns-then-base-d : goal.returns-then-base-d
-returns-then-base-d c =
-    sym (c.loop-i.invariant.1 ∙ read-stop c.args.base c.loop-i.n c.args.w.now c.loop-i.i (omega arith) (omega (arith, c.digit-d.ensures)))
+pub returns-in_err-digit : goal.returns-in_err-digit
+returns-in_err-digit g c =
+    let d : digit_of (get_or c.args.w.now c.loop-b.b-index 0) ≡ None = sym c.digit.ensures ∙ c.in_err-digit.was in
+    c.from_residual.ensures ∙ sym (c.loop-b.invariant ∙ (rw d at (read-on g.row.BASE c.loop-b.n c.args.w.now c.loop-b.b-index (omega arith))))
 
-pub returns-then-d-base : goal.returns-then-d-base
-returns-then-d-base c =
-    let reaches = over c.args.base c.digit-d.result c.loop-i.n (omega arith) (omega arith) (omega arith) c.if-d-base.true in
-    sym (c.loop-i.invariant.1 ∙ read-over c.args.base c.loop-i.n c.args.w.now c.loop-i.i (omega arith) (omega (arith, c.digit-d.ensures)) (omega (arith, c.digit-d.ensures, reaches)))
+pub returns-in_err-n : goal.returns-in_err-n
+returns-in_err-n g c =
+    let d : digit_of (get_or c.args.w.now c.loop-b.b-index 0) ≡ Some c.in_ok-digit.field-0 = sym c.digit.ensures ∙ c.in_ok-digit.was in
+    let n : one_more g.row.BASE c.loop-b.n c.in_ok-digit.field-0 ≡ None = sym c.one_more.ensures ∙ c.in_err-n.was in
+    c.from_residual-in_err-n.ensures ∙ sym (c.loop-b.invariant ∙ (rw (d, n) at (read-on g.row.BASE c.loop-b.n c.args.w.now c.loop-b.b-index (omega arith))))
 
-pub loop-i-preserved : goal.loop-i-preserved
-loop-i-preserved c =
-    let fits = within c.args.base c.digit-d.result c.loop-i.n (omega arith) (omega arith) (omega arith) c.if-d-base.false in (
-      omega arith,
-      c.loop-i.invariant.1
-          ∙ read-on c.args.base c.loop-i.n c.args.w.now c.loop-i.i (omega arith) (omega (arith, c.digit-d.ensures)) (omega (arith, c.digit-d.ensures, fits))
-          ∙ rw (← c.digit-d.ensures),
-    )
+pub loop-b-preserved : goal.loop-b-preserved
+loop-b-preserved g c =
+    let d : digit_of (get_or c.args.w.now c.loop-b.b-index 0) ≡ Some c.in_ok-digit.field-0 = sym c.digit.ensures ∙ c.in_ok-digit.was in
+    let n : one_more g.row.BASE c.loop-b.n c.in_ok-digit.field-0 ≡ Some c.in_ok-n.n = sym c.one_more.ensures ∙ c.in_ok-n.was in
+    c.loop-b.invariant ∙ (rw (d, n) at (read-on g.row.BASE c.loop-b.n c.args.w.now c.loop-b.b-index (omega arith)))
 
 pub returns : goal.returns
-returns c = let e : c.loop-i.i ≡ length c.args.w.now = omega arith in sym (c.loop-i.invariant.1 ∙ rw e (read_done _ _ c.args.w.now))
+returns g c = let e : c.loop-b.b-index ≡ length c.args.w.now = omega arith in sym (c.loop-b.invariant ∙ rw e (read_done _ _ c.args.w.now))
