@@ -3,8 +3,8 @@
     python3 tools/test_names.py
 
 A contract that says `result ≡ definition` of the function's own parameters names the definition by the function: that of `fn
-some_name` is `some_name`; of a method the type comes first; a function that puts text into a buffer, `put_thing`, puts `thing_text`; one
-word may have a preposition or the type of the result after it (docs/ARCHITECTURE.md, 'Names').
+some_name` is `some_name`; of a method the type comes first, but where the definition takes its fields; a function that puts text into a
+buffer, `put_thing`, puts `thing_text`; one word may have a preposition or the type of the result after it (docs/ARCHITECTURE.md, 'Names').
 """
 
 from __future__ import annotations
@@ -30,7 +30,10 @@ PROMISED = {
     "codec/src/replies.rt ping_reply": "ping_reply_of: `ping_reply` is a field of the motor's state, and a clause would read that",
     "motor/src/engine/moves.rt count_by": "acknowledgement_count: `count_by` is a word of the library",
     "motor/src/motor.rt idle_at": "remove_said: a removal's two tests are a start's first",
+    "text/src/put.rt put_decimal_in": "decimal_in: it is on at most k digits, and `decimal_text` is that of all twenty",
 }
+# what a definition is given: parameters, and fields of self
+GIVEN = r"((?: (?:self\.)?\w+)*)"
 # a name that several types have, and why
 TYPES = {
     "Row": "a row of a table of examples, each table's own",
@@ -82,30 +85,32 @@ def snake(name: str) -> str:
     return re.sub(r"(?<=[a-z0-9])[A-Z]", lambda capital: f"_{capital[0]}", name).lower()
 
 
-def names(function: Function, puts: bool) -> set[str]:
-    """What a function's definition may be called."""
+def names(function: Function, form: str) -> set[str]:
+    """What a function's definition may be called, by the form of what it promises."""
     name = function.name.removeprefix("codec_") if function.place.startswith("codec_abi") else function.name
-    if function.type:
-        return {f"{snake(function.type)}_{name}"}
-    if puts and name.startswith("put_"):
+    if form == "put" and name.startswith("put_"):
         return {f"{name.removeprefix('put_')}_text"}
+    if function.type and form != "fields":
+        return {f"{snake(function.type)}_{name}"}
     if "_" in name:
         return {name}
     return {name, *(f"{name}_{word}" for word in PREPOSITIONS), f"{name}_{snake(function.result)}"}
 
 
-def promised(function: Function) -> Iterator[tuple[str, bool]]:
-    """The definition that a contract says of the function's own parameters alone, and whether it is text that is put."""
+def promised(function: Function) -> Iterator[tuple[str, str]]:
+    """The definition that a contract says of the function's own parameters alone, and the form: `put` of text that is put, `fields`
+    where self is given by its fields, or else `whole`."""
     for contract in function.contracts:
         text = re.sub(r"\b(\w+)\.(?:old|now)\b", r"\1", contract).replace("«", "").replace("»", "")
-        said = re.match(r"\(?result ≡ ([a-z][\w.]*)((?: \w+)*)(?=\)? ×|$)", text)
-        put = re.match(r"out\.new ≡ put out \(?([a-z][\w.]*)((?: \w+)*)\)?$", text)
+        said = re.match(rf"\(?result ≡ ([a-z][\w.]*){GIVEN}(?=\)? ×|$)", text)
+        put = re.match(rf"(?:out\.new ≡ put out|self\.new ≡ put self|Put out at) \(?([a-z][\w.]*){GIVEN}\)?(?: out\.new result)?$", text)
         found = said or put
         if not found:
             continue
-        own = [name for name in function.parameters if not (put and name == "out")]
-        if sorted(found[2].split()) == sorted(own):
-            yield found[1].split(".")[-1], found is put
+        own = [name for name in function.parameters if not (put and name in ("out", "at", "self"))]
+        given = re.sub(r"\bself\.\w+(?: self\.\w+)*", "self", found[2])
+        if sorted(given.split()) == sorted(own):
+            yield found[1].split(".")[-1], "put" if put else "whole" if given == found[2] else "fields"
 
 
 def defined(crates: Path) -> set[str]:
@@ -121,10 +126,10 @@ def misnamed(crates: Path, exceptions: Collection[str] = PROMISED) -> list[str]:
     """The functions whose definition has another name."""
     known = defined(crates)
     return [
-        f"{function.place}: {definition}, not {' or '.join(sorted(names(function, puts)))}"
+        f"{function.place}: {definition}, not {' or '.join(sorted(names(function, form)))}"
         for function in functions(crates)
-        for definition, puts in promised(function)
-        if definition in known and definition not in names(function, puts) and function.place not in exceptions
+        for definition, form in promised(function)
+        if definition in known and definition not in names(function, form) and function.place not in exceptions
     ]
 
 
@@ -159,12 +164,12 @@ class Names(unittest.TestCase):
             (crates / "codec/specs/Told.antt").write_text(DEFINITIONS)
             self.assertEqual(
                 [line.split(":")[0].split()[-1] for line in misnamed(crates)],
-                ["hear_state", "put_ok", "look"],
+                ["hear_state", "put_ok", "look", "pinged", "put_one"],
             )
             self.assertEqual(types_twice(crates), ["CanFrame: codec/specs/Told.antt, codec/src/bus.rt"])
 
 
-# three broken names, and five right ones
+# five broken names, and seven right ones
 TOLD = """
 fn hear_state(s: State, now: u64) -> State
     ensures { result ≡ state_heard s now }
@@ -185,10 +190,20 @@ fn start(s: State) -> State
 fn stop(s: State) -> State
     ensures kept { result ≡ s }
     ensures { result ≡ spec.stop s }
+impl Turn {
+    fn tried(self, wait: u64) -> Moved
+        ensures { result ≡ tried self.sight self.time wait }
+    fn pinged(self, wait: u64) -> Moved
+        ensures { result ≡ tried self.sight self.time wait }
+    fn put_one(&mut self, n: u64)
+        ensures { self.new ≡ put self.old (one_of n) }
+    fn put_ten(&mut self, n: u64)
+        ensures { self.new ≡ put self.old (ten_text n) }
+}
 """
 DEFINITIONS = "pub record CanFrame : Type 0 where\n" + "".join(
     f"abbrev pub {name} : A\n"
-    for name in ("state_heard", "ok_of", "shown_in", "told_by", "no_text", "new_motor", "start_in", "stop")
+    for name in ("state_heard", "ok_of", "shown_in", "told_by", "no_text", "new_motor", "start_in", "stop", "tried", "one_of", "ten_text")
 )
 
 

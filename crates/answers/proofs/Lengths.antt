@@ -103,7 +103,7 @@ carried-short nothing = none
 carried-short (status_of id status) = wider (fields-short _ (ascii "42")) (omega arith)
 carried-short (last_read l) = last-short l
 
-refused-short : (r : Refusal) → Short (refused_text r) 51
+pub refused-short : (r : Refusal) → Short (refused_text r) 51
 refused-short r = named-short (ascii "refused") (number_of r) (ascii "D") & carried-short (row_of r).1 & words end_of_line
 
 pub told-fits : (c : Result ⊤ Refusal) → Short (told_text c) 51

@@ -3,6 +3,7 @@
 #![tactic(auto)]
 
 mod flags;
+pub mod lent;
 pub mod looks;
 mod names;
 pub mod said;

@@ -27,17 +27,6 @@ pub struct Limits {
 }
 
 impl Model {
-    const ALL: [Model; 8] = [
-        Model::Rs00,
-        Model::Rs01,
-        Model::Rs02,
-        Model::Rs03,
-        Model::Rs04,
-        Model::Rs05,
-        Model::Rs05el,
-        Model::Rs06,
-    ];
-
     // The name of a model.
     pub fn name(self) -> &'static [u8]
         ensures { result.now ≡ model_text self }
@@ -55,14 +44,28 @@ impl Model {
     }
 }
 
-// The model of exactly this name. A name is any bytes.
+// The model of exactly this name. A name is any bytes. The one name of seven bytes is tested apart,
+// so that no other name is compared with it.
+#[tactic(auto, using(crate::proofs::Bytes::by_bytes), unfolding(crate::specs::Models::named_among))]
 pub fn model_named(name: &[u8]) -> Option<Model>
     ensures { result ≡ model_named name.now }
 {
-    Model::ALL
-        .iter()
-        .find(|model| name == model.name())
-        .copied()
+    if name.len() != 7 {
+        return match name {
+            b"rs-00" => Some(Model::Rs00),
+            b"rs-01" => Some(Model::Rs01),
+            b"rs-02" => Some(Model::Rs02),
+            b"rs-03" => Some(Model::Rs03),
+            b"rs-04" => Some(Model::Rs04),
+            b"rs-05" => Some(Model::Rs05),
+            b"rs-06" => Some(Model::Rs06),
+            _ => None,
+        };
+    }
+    match name {
+        b"rs-05el" => Some(Model::Rs05el),
+        _ => None,
+    }
 }
 
 // The limits of a model whose position runs to 4π, as each does.

@@ -1,7 +1,8 @@
 -- Numbers a caller may get: tests with their numbers in the paper's order, of which the first that applies answers. Definitions only.
-use Rattle.std.specs.Prelude.{ℕ, Bool, cond, List, [], ◌∷◌, ℤ, Result, Ok, Err, ⊤}
+use Rattle.std.specs.Prelude.{ℕ, ◌≡◌, ◌⊎◌, Bool, cond, List, [], ◌∷◌, ℤ, Result, Ok, Err, ⊤}
 use Rattle.codec.specs.declared.model.Model.{Model}
 use Rattle.codec.specs.declared.error.Refusal.{Refusal}
+use Rattle.codec.specs.declared.error.Refusal.TheVariants.{ReadingsFull}
 use Rattle.codec.specs.Refusals.{number_of, values_of}
 use Rattle.codec.specs.Numbers.{refusal_of, answer_of}
 use Rattle.motor.specs.declared.engine.command.Said.{Said}
@@ -42,3 +43,15 @@ admission_row (Err r) = (number_of r, values_of r)
 
 abbrev pub admission_of : Result Model Refusal → ℕ → List ℤ → Result Model Refusal
 admission_of good n values = answer_of good Err n values
+
+-- a put: 15 where there is no room
+abbrev pub put_row : Result ⊤ Refusal → ℕ
+put_row (Ok tt) = 0
+put_row (Err r) = 15
+
+abbrev pub put_answer_of : ℕ → Result ⊤ Refusal
+put_answer_of n = answer_of (Ok tt) (λ r. Err ReadingsFull) n []
+
+-- what a put answers: that the value is kept, or that there is no room
+abbrev pub IsPutAnswer : Result ⊤ Refusal → Type 0
+IsPutAnswer a = (a ≡ Ok tt) ⊎ (a ≡ Err ReadingsFull)

@@ -3,7 +3,6 @@
 // Strings of words, no arrays of rows: answers prints by them, and its ReadBack (command-read-back) is over their text.
 ghost use Rattle.std.specs.Prelude.{◌≡◌, ◌<◌, IfSome, length};
 ghost use Rattle.session.specs.Table.{row_of};
-ghost use Rattle.text.specs.Words.{word_at, past_word};
 
 // The commands of a start, each with the shape of the whole line.
 pub const COMMANDS: [u8; 545] =
@@ -32,22 +31,11 @@ pub(crate) fn row_of(table: &[u8], w: &[u8]) -> Option<usize>
         if rest.is_empty() {
             return None;
         }
-        let (name, shape) = first_word(rest);
+        let (name, shape) = text::first_word(rest);
         if w == name {
             return Some(row);
         }
-        rest = first_word(shape).1;
+        rest = text::past_word(shape);
     }
     None
-}
-
-// The first word, and what follows its space: with one search what text's word and past_word take two for.
-fn first_word(s: &[u8]) -> (&[u8], &[u8])
-    ensures word { result.0.now ≡ word_at s.now 0 }
-    ensures rest { result.1.now ≡ past_word s.now }
-{
-    match text::position_of(s, b' ') {
-        Some(end) => (&s[..end], &s[end + 1..]),
-        None => (s, &s[s.len()..]),
-    }
 }

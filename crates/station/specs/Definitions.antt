@@ -13,7 +13,7 @@ use Rattle.codec.specs.declared.bus.CanFrame.{CanFrame}
 use Rattle.codec.specs.Faults.{decode_fault_report}
 use Rattle.codec.specs.Ids.{build_ext_id, ext_id_parts}
 use Rattle.codec.specs.Kinds.{parameter_info}
-use Rattle.codec.specs.Models.{model_named, limits_of, model_limits}
+use Rattle.codec.specs.Models.{model_text, model_named, limits_of, model_limits}
 use Rattle.codec.specs.Modes.{control_mode_number, control_mode_from_raw}
 use Rattle.codec.specs.Motion.{motion_raw, gain_raw, encode_mit_command}
 use Rattle.codec.specs.Refusals.{number_of}
@@ -21,16 +21,20 @@ use Rattle.codec.specs.Names.{protocol_name}
 use Rattle.codec.specs.ParameterNames.{parameter_name}
 use Rattle.codec.specs.Replies.{validate_protocol_cmd, encode_set_protocol, encode_version_request, is_version_reply, decode_version_reply, ping_reply_of, decode_ping_reply}
 use Rattle.codec.specs.Status.{status_value, temperature_of, decode_status_frame}
-use Rattle.codec.specs.Values.{encode_parameter_value, encode_parameter_read, encode_parameter_write, decode_read_parameter_value}
+use Rattle.codec.specs.Values.{value_as, kind_in, raw_of, encode_parameter_value, encode_parameter_read, encode_parameter_write, decode_read_parameter_value}
 use Rattle.codec.specs.Words.{value_of, word_of}
 use Rattle.codec.proofs.error.number.Reads as number
 use Rattle.codec.proofs.faults.decode_fault_report.Reads as decode-fault-report
+use Rattle.codec.proofs.model.Model.name.Reads as model-name
 use Rattle.codec.proofs.model.limits_of.Reads as limits-of
 use Rattle.codec.proofs.model.model_limits.Reads as model-limits
 use Rattle.codec.proofs.model.model_named.Reads as model-named
 use Rattle.codec.proofs.motion.encode_mit_command.Reads as encode-mit-command
 use Rattle.codec.proofs.motion.gain_raw.Reads as gain-raw
 use Rattle.codec.proofs.motion.motion_raw.Reads as motion-raw
+use Rattle.codec.proofs.protocol.ParameterValue.of_kind.Reads as of-kind
+use Rattle.codec.proofs.protocol.ParameterValue.kind.Reads as value-kind
+use Rattle.codec.proofs.protocol.ParameterValue.raw.Reads as value-raw
 use Rattle.codec.proofs.protocol.build_ext_id.Reads as build-ext-id
 use Rattle.codec.proofs.protocol.decode_read_parameter_value.Reads as decode-read-parameter-value
 use Rattle.codec.proofs.protocol.encode_parameter_read.Reads as encode-parameter-read
@@ -140,6 +144,9 @@ pub record Parameters : Type 0 where
   pub encode-write : Gives encode-parameter-write.Post (of2 encode_parameter_write)
   pub encode-value : Gives encode-parameter-value.Post (of2 encode_parameter_value)
   pub decode-value : Gives decode-read-parameter-value.Post (of2 decode_read_parameter_value)
+  pub value-of : Gives of-kind.Post (of2 value_as)
+  pub kind : Gives value-kind.Post (of1 kind_in)
+  pub raw : Gives value-raw.Post (of1 raw_of)
   pub mode-from : Gives from-raw.Post (of1 control_mode_from_raw)
   pub mode-to : Gives mode-number.Post (of1 control_mode_number)
   pub byte : Gives byte-of.Post (of1 (λ v. of_z w8 v))
@@ -147,6 +154,7 @@ pub record Parameters : Type 0 where
 
 -- a name is any bytes, lent; `now` is what they are
 pub record MotionValues : Type 0 where
+  pub name : Means model-name.Post (of1 (λ model r. r.now ≡ model_text model))
   pub named : Gives model-named.Post (of1 (λ name. model_named name.now))
   pub limits-named : Gives model-limits.Post (of1 (λ name. model_limits name.now))
   pub limits : Gives limits-of.Post (of1 limits_of)
@@ -223,10 +231,14 @@ pub record CodecAsks : Type 2 where
   pub encode-write : AsksNothing encode-parameter-write.requires
   pub encode-value : AsksNothing encode-parameter-value.requires
   pub decode-value : AsksNothing decode-read-parameter-value.requires
+  pub value-of : AsksNothing of-kind.requires
+  pub kind : AsksNothing value-kind.requires
+  pub raw : AsksNothing value-raw.requires
   pub mode-from : AsksNothing from-raw.requires
   pub mode-to : AsksNothing mode-number.requires
   pub byte : AsksNothing byte-of.requires
   pub signed : AsksNothing signed-of.requires
+  pub name : AsksNothing model-name.requires
   pub named : AsksNothing model-named.requires
   pub limits-named : AsksNothing model-limits.requires
   pub limits : AsksNothing limits-of.requires

@@ -1,11 +1,10 @@
 // Frames handed in round robin over the motors.
 ghost use Rattle.std.specs.Prelude.{◌≡◌};
-ghost use Rattle.station_abi.specs.Frames.{motors_of, next_id, next_frame, passed_of, frames_by_value, frames_in_place};
+ghost use Rattle.station_abi.specs.Frames.{motors_of, next_id, next_frame, passed_of, frames_by_value};
 
 use crate::loaded::{last_parameter, loaded, read_reply, status_frame};
 use codec::bus::CanFrame;
-use station::call::{Answer, Asked, Call, Replied};
-use station::lent::call::call;
+use station::call::{Answer, Replied};
 use station::station::frame;
 
 // How many motors there are: at most 8.
@@ -64,27 +63,6 @@ pub extern "C" fn frames_by_value(motors: u64, held: u64, kind: u64, times: u64)
         let after = frame(st, next_frame(kind, id, parameter), 0);
         st = after.station;
         taken += passed(after.replied);
-        id = next_id(id, motors);
-    }
-    taken
-}
-
-// As frames_by_value, with the motors lent to each call.
-#[unsafe(no_mangle)]
-pub extern "C" fn frames_in_place(motors: u64, held: u64, kind: u64, times: u64) -> u64
-    ensures { result ≡ frames_in_place motors held kind times }
-{
-    let motors = motors_of(motors);
-    let parameter = last_parameter(held);
-    let mut st = loaded(motors, held);
-    let mut id: u16 = 1;
-    let mut taken: u64 = 0;
-    for _count in 0..times {
-        let asked = Asked {
-            call: Call::Frame { time: 0 },
-            frame: next_frame(kind, id, parameter),
-        };
-        taken += passed(call(&mut st.motors, asked));
         id = next_id(id, motors);
     }
     taken

@@ -2,5 +2,6 @@
 // is said by the station; both loops promise the same count, by the station's definitions.
 #![tactic(auto)]
 
+pub mod beats;
 pub mod frames;
 pub mod loaded;

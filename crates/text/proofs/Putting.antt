@@ -4,12 +4,12 @@ use mathlib.Core.Path.{◌≡◌, refl, ap, sym, ◌∙◌}
 use mathlib.Core.List.{List, [], ◌∷◌, ◌++◌, append_assoc}
 use native.Mathlib.Omega.{arith}
 use native.Mathlib.Decide.{dec_le}
-use lib.ListN.{length, take, drop, set, length-append, length-set}
+use lib.ListN.{length, take, drop, set, length-append, length-set, length-replicate}
 use lib.Seq.{set_out, sets, sets-eq, length-take-le, take_at, drop_at, take_all}
 use Rattle.std.proofs.Common.{take-append-drop, drop-drop}
 use borrow.Author.Tests.{lt-ltb, le-ltb}
 use Rattle.text.specs.declared.put.Text.{Text}
-use Rattle.text.specs.Put.{Put, put, text_as_bytes, placed, digits_text, decimal_in, glyph_of}
+use Rattle.text.specs.Put.{Put, put, no_text, text_as_bytes, placed, digits_text, decimal_in, glyph_of}
 
 -- ---- what is placed
 
@@ -52,6 +52,48 @@ module _ {l₀ l₁ bs : List ℕ} {p r : ℕ} (x : Put l₀ p bs l₁ r) (h : p
       let e : length (take p l₀ ++ bs) ≡ r = rw (length-append, length-take-le p l₀ (omega arith)) (omega (arith, put_next)) in
       rw (x.whole, placed-there l₀ p bs h) (drop_at (take p l₀ ++ bs) (drop (p + length bs) l₀) r e ∙ ap (λ (k : ℕ). drop k l₀) (sym put_next))
 
+-- ---- one put, and one after another
+
+pub put-nil : (l : List ℕ) (at : ℕ) → Put l at [] l at
+put-nil l at = record { same = refl; whole = refl; next = omega arith }
+
+pub put_one : (l : List ℕ) (at b : ℕ) → at < length l → Put l at (b ∷ []) (set l at b) (at + 1)
+put_one l at b h = record { same = simp length-set; whole = refl; next = omega arith }
+
+-- nothing where there is no room
+pub put-none : (l : List ℕ) (at : ℕ) (bs : List ℕ) → length l ≤ at → Put l at bs l at
+put-none l at bs h = record { same = refl; whole = sym (placed-none l at bs h); next = omega arith }
+
+pub put_both : {l₀ l₁ l₂ a b : List ℕ} {p q r : ℕ} → Put l₀ p a l₁ q → Put l₁ q b l₂ r → Put l₀ p (a ++ b) l₂ r
+put_both {l₀} {l₁} {l₂} {a} {b} {p} {q} {r} x y =
+    record {
+      same = y.same ∙ x.same;
+      whole = y.whole ∙ from_next (dec_le (p + length a) (length l₀)) ∙ ap (λ (l : List ℕ). placed l (p + length a) b) x.whole ∙ sym (placed-then l₀ p a b);
+      next = rw length-append (omega (arith, x.same, x.next, y.next));
+    }
+  where
+    -- past the end one place is as another
+    from_next : Dec (p + length a ≤ length l₀) → placed l₁ q b ≡ placed l₁ (p + length a) b
+    from_next (yes h) = ap (λ (k : ℕ). placed l₁ k b) (omega (arith, x.next))
+    from_next (no h) = placed-none l₁ q b (omega (arith, x.same, x.next)) ∙ sym (placed-none l₁ (p + length a) b (omega (arith, x.same)))
+
+-- as many of the bytes as there is room for
+pub put-fit : (l : List ℕ) (at : ℕ) (s : List ℕ) (k : ℕ) → at < length l → k ≡ min (length s) (length l - at)
+    → Put l at s (take at l ++ (take k s ++ drop k (drop at l))) (at + k)
+put-fit l at s k h m =
+    let n : at + k ≡ max at (min (at + length s) (length l)) = omega arith in
+    let t : length (take k s) ≡ k = length-take-le k s (omega arith) in
+    let f : placed l at (take k s) ≡ take at l ++ (take k s ++ drop k (drop at l)) = placed-there l at (take k s) (omega arith) ∙ rw (t, append_assoc, drop-drop k at l) in
+    let w : take at l ++ (take k s ++ drop k (drop at l)) ≡ placed l at s = sym f ∙ sym (cut t (dec_le (length s) k)) in
+    record { same = ap length w ∙ placed-all l at s; whole = w; next = n }
+  where
+    cut : length (take k s) ≡ k → Dec (length s ≤ k) → placed l at s ≡ placed l at (take k s)
+    cut t (yes a) = rw (take_all k s a)
+    cut t (no a) =
+        ap (λ (u : List ℕ). placed l at u) (sym (take-append-drop k s))
+        ∙ placed-then l at (take k s) (drop k s)
+        ∙ placed-none (placed l at (take k s)) (at + length (take k s)) (drop k s) (rw placed-all (omega arith))
+
 -- ---- a text with more put after it
 
 module _ {N : ℕ} (t : Text N) where
@@ -60,35 +102,14 @@ module _ {N : ℕ} (t : Text N) where
   unfolding put
   puts bs = record { same = placed-all t.bytes t.at bs; whole = refl; next = refl }
 
+  -- and that this is all of the text
+  pub put_whole : {bs l : List ℕ} {r : ℕ} → Put t.bytes t.at bs l r → record { bytes = l; at = r } ≡ put t bs
+  unfolding put
+  put_whole x = rw (x.whole, x.next)
+
   -- where there is room, what was text before, and the bytes
   pub text-put : (bs : List ℕ) → t.at + length bs ≤ length t.bytes → text_as_bytes (put t bs) ≡ text_as_bytes t ++ bs
   text-put bs h = put-text (puts bs) h
-
-  -- one byte, where there is room and where there is none
-  pub put_room : (b : ℕ) → t.at < length t.bytes → put t (b ∷ []) ≡ record { bytes = set t.bytes t.at b; at = t.at + 1 }
-  unfolding put
-  put_room b h = let e : max t.at (min (t.at + 1) (length t.bytes)) ≡ t.at + 1 = omega arith in rw e
-
-  pub put_full : (bs : List ℕ) → length t.bytes ≤ t.at → put t bs ≡ t
-  unfolding put
-  put_full bs h = let e : max t.at (min (t.at + length bs) (length t.bytes)) ≡ t.at = omega arith in rw (e, placed-none t.bytes t.at bs h)
-
-  -- as many of the bytes as there is room for
-  pub put_fit : (s : List ℕ) (k : ℕ) → t.at < length t.bytes → k ≡ min (length s) (length t.bytes - t.at)
-      → put t s ≡ record { bytes = take t.at t.bytes ++ (take k s ++ drop k (drop t.at t.bytes)); at = t.at + k }
-  unfolding put
-  put_fit s k h m =
-      let n : max t.at (min (t.at + length s) (length t.bytes)) ≡ t.at + k = omega arith in
-      let l : length (take k s) ≡ k = length-take-le k s (omega arith) in
-      let f : placed t.bytes t.at (take k s) ≡ take t.at t.bytes ++ (take k s ++ drop k (drop t.at t.bytes)) = placed-there t.bytes t.at (take k s) (omega arith) ∙ rw (l, append_assoc, drop-drop k t.at t.bytes) in
-      rw (n, cut l (dec_le (length s) k), f)
-    where
-      cut : length (take k s) ≡ k → Dec (length s ≤ k) → placed t.bytes t.at s ≡ placed t.bytes t.at (take k s)
-      cut l (yes a) = rw (take_all k s a)
-      cut l (no a) =
-          ap (λ (u : List ℕ). placed t.bytes t.at u) (sym (take-append-drop k s))
-          ∙ placed-then t.bytes t.at (take k s) (drop k s)
-          ∙ placed-none (placed t.bytes t.at (take k s)) (t.at + length (take k s)) (drop k s) (rw placed-all (omega arith))
 
   pub put_nil : put t [] ≡ t
   unfolding put
@@ -110,6 +131,17 @@ module _ {N : ℕ} (t : Text N) where
       from_next (yes h) = ap (λ (k : ℕ). placed (placed t.bytes t.at a) k b) (omega arith)
       from_next (no h) =
           placed-none (placed t.bytes t.at a) next b (rw placed-all (omega arith)) ∙ sym (placed-none (placed t.bytes t.at a) (t.at + length a) b (rw placed-all (omega arith)))
+
+-- the text of a new buffer is what is put into it, where there is room
+pub text-new : {N : ℕ} (bs : List ℕ) → length bs ≤ N → text_as_bytes (put (no_text N) bs) ≡ bs
+text-new {N} bs h = text-put (no_text N) bs (rw length-replicate (omega arith))
+
+-- a text put by way of a buffer of its own that has room for it
+pub put_copied : {N : ℕ} {t u : Text N} {bs b l m : List ℕ} {at r : ℕ}
+    → t ≡ no_text N → u ≡ put t bs → b ≡ text_as_bytes u → length bs ≤ N → Put l at b m r → Put l at bs m r
+put_copied {N} {t} {u} {bs} {b} n e f h x =
+    let g : b ≡ bs = f ∙ rw (e, n) (text-new bs h) in
+    rw g at x
 
 -- what joins puts, one after the other, to one
 pub ruleset puts_joined = (put_nil, put_then, append_assoc)

@@ -6,15 +6,16 @@ use mathlib.Core.List.{List, [], ◌∷◌}
 use native.Mathlib.Omega.{arith}
 use native.Mathlib.Numerals.{add-one}
 use lib.ListN.{length, take, drop, get_or, length-drop}
-use lib.Seq.{drop-cons, drop-length, drop-nil, take_all}
+use lib.Seq.{drop-cons, drop-length, drop-nil, length-take-le, take_all, take-length}
 use lib.Dec.{eqb, ltb}
 use borrow.Author.Tests.{ltb-true, ltb-false, lt-ltb, le-ltb}
 use Rattle.std.specs.Prelude.{Option, option_map, unwrap_or, option_and_then, Some, None, bytes_eq, count_by}
 use Rattle.std.specs.Option.{MatchOption}
 use Rattle.std.specs.List.{position_or_len, slice_split, slice_get, onto_first}
+use Rattle.std.proofs.lemmas.List.{drop-take}
 use Rattle.std.proofs.lemmas.List.Sums.{sum_by-cons}
 use Rattle.std.proofs.lemmas.List.Recursion.{is_position_or_len}
-use Rattle.text.specs.Search.{index_of, index_after, position_of}
+use Rattle.text.specs.Search.{index_of, index_after, position_of, slice}
 use Rattle.text.specs.Numbers.{digit_of, one_more, read_from, digits_in}
 use Rattle.text.specs.Words.{word_count, part_at, word_at, past_word, same_bytes, which_of, which_in, below}
 
@@ -91,6 +92,14 @@ place-found b s e h = let x = below-found _ _ e (rw place-is at h) in (x.0, omeg
 pub place-none : (b : ℕ) (s : List ℕ) → position_of b s ≡ None → index_of b s ≡ length s
 place-none b s h = let x = below-none _ _ (rw place-is at h) in omega (arith, index-le b s)
 
+-- a range, as the code cuts it
+pub range-is : (s : List ℕ) (from to : ℕ) → from ≤ to → slice from to s ≡ take (to - from) (drop from s)
+unfolding slice
+range-is s from to h = let e : from + (to - from) ≡ to = omega arith in rw e at (drop-take from (to - from) s)
+
+pub range-length : (s : List ℕ) (from to : ℕ) → from ≤ to → to ≤ length s → length (take (to - from) (drop from s)) ≡ to - from
+range-length s from to h l = length-take-le (to - from) (drop from s) (rw length-drop (omega arith))
+
 pub drop_past : (n : ℕ) (s : List ℕ) → length s ≤ n → drop n s ≡ []
 drop_past n [] h = drop-nil n
 drop_past zero (b ∷ s) h = absurd (omega arith)
@@ -157,29 +166,15 @@ same-eq (x ∷ a) (y ∷ b) = ap (λ (c : Bool). eqb x y && c) (same-eq a b)
 
 -- ---- one of the names
 
-pub which-is : (names : List ℕ) (n : ℕ) (w : List ℕ) (i : ℕ) → i < n → same_bytes w (word_at names i) ≡ true
-    → ((k : ℕ) → k < i → same_bytes w (word_at names k) ≡ false) → which_of names n w ≡ i
-unfolding which_of word_at
-which-is names zero w i l y h = absurd (omega arith)
-which-is names (suc n) w zero l y h = rw y
-which-is names (suc n) w (suc i) l y h =
-    let e : 1 + which_of (past_word names) n w ≡ suc i = omega (arith, which-is (past_word names) n w i (omega arith) y (λ k m. h (suc k) (omega arith))) in
-    rw (h 0 (omega arith)) e
+-- the names from name k on, of n in all
+module _ (names w : List ℕ) (k n : ℕ) where
+  pub which_none : n ≤ k → which_of names (n - k) w ≡ 0
+  unfolding which_of
+  which_none h = let p : n - k ≡ 0 = omega arith in rw p
 
-pub which-none : (names : List ℕ) (n : ℕ) (w : List ℕ) → ((k : ℕ) → k < n → same_bytes w (word_at names k) ≡ false) → which_of names n w ≡ n
-unfolding which_of word_at
-which-none names zero w h = refl
-which-none names (suc n) w h =
-    let e : 1 + which_of (past_word names) n w ≡ suc n = omega (arith, which-none (past_word names) n w (λ k m. h (suc k) (omega arith))) in
-    rw (h 0 (omega arith)) e
-
--- the first place below n at which the word is w
-pub which-first : (names : List ℕ) (n : ℕ) (w : List ℕ) (r : Option ℕ)
-    → MatchOption r ((k : ℕ) → 0 ≤ k → k < n → same_bytes w (word_at names k) ≡ false) (λ i. (0 ≤ i) × (i < n) × (same_bytes w (word_at names i) ≡ true)
-    × ((k : ℕ) → 0 ≤ k → k < i → same_bytes w (word_at names k) ≡ false))
-    → r ≡ which_in names n w
-which-first names n w None h = rw (which-none names n w (λ k l. h k (omega arith) l), le-ltb n n (omega arith))
-which-first names n w (Some i) h = rw (which-is names n w i h.1 h.2 (λ k l. h.3 k (omega arith) l), lt-ltb i n h.1)
+  pub which_step : k < n → which_of names (n - k) w ≡ cond (same_bytes w (word_at names 0)) 0 (1 + which_of (past_word names) (n - (k + 1)) w)
+  unfolding which_of
+  which_step h = let p : n - k ≡ suc (n - (k + 1)) = omega arith in rw p
 
 -- what follows the first space, and what doesn't
 pub past-found : (s : List ℕ) (e : ℕ) → position_of 32 s ≡ Some e → drop (e + 1) s ≡ past_word s
@@ -187,3 +182,16 @@ past-found s e f = rw (place-found 32 s e f).0
 
 pub past-none : (s : List ℕ) → position_of 32 s ≡ None → [] ≡ past_word s
 past-none s f = sym (drop_past (index_of 32 s + 1) s (let l = place-none 32 s f in omega arith))
+
+-- ---- the first word
+
+pub first-word : (s : List ℕ) (e : ℕ) → position_of 32 s ≡ Some e → take e s ≡ word_at s 0
+unfolding word_at
+first-word s e f = rw (place-found 32 s e f).0
+
+pub whole-word : (s : List ℕ) → position_of 32 s ≡ None → s ≡ word_at s 0
+unfolding word_at
+whole-word s f = rw (place-none 32 s f, take-length)
+
+-- what the check of `which` tries
+pub ruleset names_passed = (which_none, which_step, same-eq)

@@ -1,6 +1,6 @@
 // The words of a line. Words are parted by single spaces, so a line has one word more than it has
 // spaces, and two spaces together part an empty word.
-ghost use Rattle.std.specs.Prelude.{◌≡◌};
+ghost use Rattle.std.specs.Prelude.{◌≡◌, ◌+◌, drop};
 ghost use Rattle.text.specs.Words.{word_count, part_at, word_at, past_word, which_in};
 
 use crate::search::position_of;
@@ -27,19 +27,46 @@ pub fn part(s: &[u8], b: u8, k: usize) -> &[u8]
     s.split(|x| *x == b).nth(k).unwrap_or(&[])
 }
 
+// What follows place k of s; nothing where s ends before.
+pub fn past(s: &[u8], k: usize) -> &[u8]
+    ensures { result.now ≡ drop (k + 1) s.now }
+{
+    if k < s.len() {
+        return &s[k + 1..];
+    }
+    &[]
+}
+
+// The first word of s, and what follows its space.
+pub fn first_word(s: &[u8]) -> (&[u8], &[u8])
+    ensures word { result.0.now ≡ word_at s.now 0 }
+    ensures rest { result.1.now ≡ past_word s.now }
+{
+    match position_of(s, b' ') {
+        Some(end) => (&s[..end], &s[end + 1..]),
+        None => (s, &s[s.len()..]),
+    }
+}
+
 // What follows the first space of s; nothing where there is none.
 pub fn past_word(s: &[u8]) -> &[u8]
     ensures { result.now ≡ past_word s.now }
 {
-    match position_of(s, b' ') {
-        Some(end) => &s[end + 1..],
-        None => &[],
-    }
+    first_word(s).1
 }
 
 // Which of the first n words of names w is, the first that it is, if there is one.
+#[tactic(auto, using(crate::proofs::Reading::names_passed))]
 pub fn which(names: &[u8], n: usize, w: &[u8]) -> Option<usize>
     ensures { result ≡ which_in names.now n w.now }
 {
-    (0..n).find(|k| w == word(names, *k))
+    let mut rest = names;
+    for k in 0..n {
+        let (name, behind) = first_word(rest);
+        if w == name {
+            return Some(k);
+        }
+        rest = behind;
+    }
+    None
 }

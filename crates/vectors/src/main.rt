@@ -9,9 +9,7 @@ mod replies;
 mod requests;
 
 use std::io;
-use std::io::BufReader;
 
 fn main(rt: HostRuntime) -> io::Result<()> {
-    let mut input = BufReader::new(rt.alloc(), rt.stdin())?;
-    lines::run(rt.alloc(), &mut input, &mut rt.stdout())
+    lines::run(&mut rt.stdin(), &mut rt.stdout())
 }
